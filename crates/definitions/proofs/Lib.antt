@@ -1,0 +1,6 @@
+mod Computed
+pub mod Families
+pub mod FirstFaults
+pub mod Gives
+pub mod Members
+pub mod Sums

@@ -1,0 +1,16 @@
+pub mod Assignment
+pub mod Certificate
+pub mod Eating
+pub mod Examples
+pub mod Fairness
+pub mod Firsts
+pub mod Hierarchies
+pub mod Lotteries
+pub mod Pieces
+pub mod Rounding
+pub mod Scaling
+pub mod Sets
+pub mod Sides
+pub mod Texts
+pub mod Tickets
+pub mod Values

@@ -1,0 +1,3 @@
+pub mod Lcm
+pub mod Measure
+pub mod Order

@@ -3,7 +3,7 @@ use Rattle.std.specs.Ordering.{is_ne, MatchOrdering}
 use Rattle.std.specs.Cmp.{nat_cmp_is, ranks}
 use Rattle.std.proofs.Common.{◌≡◌, ℕ, true, false, true≢false, Ordering, Less, Equal, Greater, ap, ◌+◌, ◌*◌, ◌/◌, ◌%◌, ◌<◌, ◌≤◌, ◌⊎◌, sym, ap₂, ◌∙◌, arith, inl, inr, mul_comm, mul_right_comm, mul-le-mul_right, mul-lt-mul_of_pos_right, div-add-mod', add-mul, nat_cmp, div-mul-le_self, mul-pos, zero-mul}
 use Rattle.std.proofs.Math.Nat.{lt-div-mul-add}
-use Rattle.frac128.specs.Order.{fraction_cmp, same_cmp}
+use Rattle.frac128.specs.Order.{cross_cmp, same_cmp}
 
 -- the smaller quotient is that of the smaller fraction
 quotient_below : (a b c d : ℕ) → 0 < b → 0 < d → a / b < c / d → a * d < c * b
@@ -26,7 +26,7 @@ quotients_agree p q h = told (nat_cmp p q) h (ranks p q)
     told Greater e h = absurd (true≢false e)
 
 -- unequal quotients decide
-pub quotients_decide : (a b c d : ℕ) → 1 ≤ b → 1 ≤ d → (a / b ≡ c / d → ⊥) → nat_cmp (a / b) (c / d) ≡ fraction_cmp a b c d
+pub quotients_decide : (a b c d : ℕ) → 1 ≤ b → 1 ≤ d → (a / b ≡ c / d → ⊥) → nat_cmp (a / b) (c / d) ≡ cross_cmp a b c d
 quotients_decide a b c d pos_b pos_d apart =
     same_cmp (a / b) (c / d) (a * d) (c * b)
     (λ h. quotient_below a b c d pos_b pos_d h)
@@ -34,7 +34,7 @@ quotients_decide a b c d pos_b pos_d apart =
     (λ h. quotient_below c d a b pos_d pos_b h)
 
 -- with equal quotients the remainders decide
-pub remainders_decide : (a b c d : ℕ) → a / b ≡ c / d → nat_cmp (a % b * d) (c % d * b) ≡ fraction_cmp a b c d
+pub remainders_decide : (a b c d : ℕ) → a / b ≡ c / d → nat_cmp (a % b * d) (c % d * b) ≡ cross_cmp a b c d
 remainders_decide a b c d same =
     let left : a / b * b * d + a % b * d ≡ a * d = sym (add-mul (a / b * b) (a % b) d) ∙ ap (λ n. n * d) (div-add-mod' a b) in
     let right : c / d * d * b + c % d * b ≡ c * b = sym (add-mul (c / d * d) (c % d) b) ∙ ap (λ n. n * b) (div-add-mod' c d) in
@@ -54,5 +54,5 @@ remainders_end r s b d pos_b pos_d h =
     ]
 
 -- where both aren't, the comparison goes on upside down
-pub turned : (a b c d : ℕ) → a / b ≡ c / d → fraction_cmp d (c % d) b (a % b) ≡ fraction_cmp a b c d
+pub turned : (a b c d : ℕ) → a / b ≡ c / d → cross_cmp d (c % d) b (a % b) ≡ cross_cmp a b c d
 turned a b c d same = ap₂ nat_cmp (mul_comm d (a % b)) (mul_comm b (c % d)) ∙ remainders_decide a b c d same

@@ -1,3 +1,4 @@
+pub mod Fraction
 pub mod Lcm
 pub mod Measure
 pub mod Order

@@ -11,8 +11,8 @@ use Rattle.std.proofs.Math.Nat.{eq_of_mul-eq-mul_left, lt_of_mul-lt-mul_left}
 use Rattle.frac128.specs.Measure.{same_fraction}
 
 -- how a / b compares with c / d: as a · d with c · b
-abbrev pub fraction_cmp : ℕ → ℕ → ℕ → ℕ → Ordering
-fraction_cmp a b c d = nat_cmp (a * d) (c * b)
+abbrev pub cross_cmp : ℕ → ℕ → ℕ → ℕ → Ordering
+cross_cmp a b c d = nat_cmp (a * d) (c * b)
 
 -- two pairs in the same order
 pub same_cmp : (p q u v : ℕ) → (p < q → u < v) → (p ≡ q → u ≡ v) → (q < p → v < u) → nat_cmp p q ≡ nat_cmp u v
@@ -46,7 +46,7 @@ chain a b c d e f pos_b pos_f p q =
     lt_of_mul-lt-mul_right d all
 
 -- where a / b is c / d, both compare alike with e / f
-alike : (a b c d e f : ℕ) → 0 < b → 0 < d → a * d ≡ c * b → fraction_cmp a b e f ≡ fraction_cmp c d e f
+alike : (a b c d e f : ℕ) → 0 < b → 0 < d → a * d ≡ c * b → cross_cmp a b e f ≡ cross_cmp c d e f
 alike a b c d e f pos_b pos_d same =
     sym (nat_cmp-mul d (a * f) (e * b) pos_d)
     ∙ ap₂ nat_cmp (left d a f ∙ ap (λ n. n * f) same ∙ right c b f) (mul_left_comm d e b ∙ ap (λ n. e * n) (mul_comm d b) ∙ mul_left_comm e b d)
@@ -59,8 +59,8 @@ alike a b c d e f pos_b pos_d same =
     right c b f = mul_assoc c b f ∙ mul_left_comm c b f
 
 -- fractions of any kind, with denominators of at least 1, are in a total order
-pub fraction_cmp_total : {K : Type 0} (num den : K → ℕ) → ((x : K) → 1 ≤ den x) → IsTotalOrder (λ (x y : K). fraction_cmp (num x) (den x) (num y) (den y))
-fraction_cmp_total num den pos = record {
+pub cross_total : {K : Type 0} (num den : K → ℕ) → ((x : K) → 1 ≤ den x) → IsTotalOrder (λ (x y : K). cross_cmp (num x) (den x) (num y) (den y))
+cross_total num den pos = record {
   antisymm = λ x y. nat_cmp_total.antisymm (num x * den y) (num y * den x);
   trans = λ x y z p q.
       sym (nat_cmp_is (num x * den z) (num z * den x) Less
@@ -69,27 +69,27 @@ fraction_cmp_total num den pos = record {
 }
 
 -- fractions in lowest terms have one value exactly where they are one pair
-pub fraction_cmp-lowest : (a b c d : ℕ) → 1 ≤ b → 1 ≤ d → ((f : ℕ) → f ∣ a → f ∣ b → f ≤ 1) → ((f : ℕ) → f ∣ c → f ∣ d → f ≤ 1)
-    → (a == c && b == d) ≡ is_eq (fraction_cmp a b c d)
-fraction_cmp-lowest a b c d pos_b pos_d low_b low_d = both_ways (a == c && b == d) (is_eq (fraction_cmp a b c d)) there back
+pub cross_cmp-lowest : (a b c d : ℕ) → 1 ≤ b → 1 ≤ d → ((f : ℕ) → f ∣ a → f ∣ b → f ≤ 1) → ((f : ℕ) → f ∣ c → f ∣ d → f ≤ 1)
+    → (a == c && b == d) ≡ is_eq (cross_cmp a b c d)
+cross_cmp-lowest a b c d pos_b pos_d low_b low_d = both_ways (a == c && b == d) (is_eq (cross_cmp a b c d)) there back
   where
-    there : (a == c && b == d) ≡ true → is_eq (fraction_cmp a b c d) ≡ true
+    there : (a == c && b == d) ≡ true → is_eq (cross_cmp a b c d) ≡ true
     there h =
         let both = and_parts (a == c) (b == d) h in
         let same : a * d ≡ c * b = ap₂ (λ m n. m * n) (eqb-true a c both.0) (sym (eqb-true b d both.1)) in
         ap is_eq (sym (nat_cmp_is (a * d) (c * b) Equal same))
 
-    back : is_eq (fraction_cmp a b c d) ≡ true → (a == c && b == d) ≡ true
+    back : is_eq (cross_cmp a b c d) ≡ true → (a == c && b == d) ≡ true
     back h =
-        let same = level (a * d) (c * b) ((Equal-is (fraction_cmp a b c d)).0 h) in
+        let same = level (a * d) (c * b) ((Equal-is (cross_cmp a b c d)).0 h) in
         let one = same_fraction a b c d pos_b pos_d low_b low_d same in
         and_from (a == c) (b == d) (eq-eqb a c one.0) (eq-eqb b d one.1)
 
 -- and where they are in lowest terms, those of one value are equal
 module _ {K : Type 0} (num den : K → ℕ) (pos : (x : K) → 1 ≤ den x) (low : (x : K) (f : ℕ) → f ∣ num x → f ∣ den x → f ≤ 1) where
-  pub fraction_ties : (x y : K) → (num x == num y && den x == den y) ≡ is_eq (fraction_cmp (num x) (den x) (num y) (den y))
-  fraction_ties x y = fraction_cmp-lowest (num x) (den x) (num y) (den y) (pos x) (pos y) (low x) (low y)
+  pub cross_ties : (x y : K) → (num x == num y && den x == den y) ≡ is_eq (cross_cmp (num x) (den x) (num y) (den y))
+  cross_ties x y = cross_cmp-lowest (num x) (den x) (num y) (den y) (pos x) (pos y) (low x) (low y)
 
-  pub fraction_laws : IsPartialOrder (λ (x y : K). num x == num y && den x == den y) (as_partial_cmp (λ (x y : K). fraction_cmp (num x) (den x) (num y) (den y)))
-  fraction_laws =
-      partial_order_from_agreeing_total {C = as_partial_cmp (λ (x y : K). fraction_cmp (num x) (den x) (num y) (den y))} (λ (x y : K). fraction_cmp (num x) (den x) (num y) (den y)) (fraction_cmp_total num den pos) (λ x y. refl) fraction_ties
+  pub cross_laws : IsPartialOrder (λ (x y : K). num x == num y && den x == den y) (as_partial_cmp (λ (x y : K). cross_cmp (num x) (den x) (num y) (den y)))
+  cross_laws =
+      partial_order_from_agreeing_total {C = as_partial_cmp (λ (x y : K). cross_cmp (num x) (den x) (num y) (den y))} (λ (x y : K). cross_cmp (num x) (den x) (num y) (den y)) (cross_total num den pos) (λ x y. refl) cross_ties

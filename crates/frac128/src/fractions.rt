@@ -2,8 +2,7 @@
 
 ghost use Rattle.std.specs.Prelude.{◌≡◌, ℕ, ◌+◌, ◌*◌, ◌^◌, ◌≤◌, refl};
 ghost use Rattle.std.specs.Int.{◌∣◌};
-ghost use Rattle.std.specs.Ordering.{as_partial_cmp};
-ghost use Rattle.frac128.specs.Order.{fraction_cmp, fraction_cmp_total, fraction_ties, fraction_laws};
+ghost use Rattle.frac128.specs.Order.{cross_cmp};
 
 use crate::divisors::gcd;
 use std::cmp::Ordering;
@@ -19,10 +18,12 @@ pub struct Fraction {
 }
 
 impl Fraction {
+    ghost use Rattle.frac128.specs.Fraction.{numerator, denominator};
+
     /// The fraction `num / den`, in lowest terms.
     pub fn new(num: u128, den: u128) -> Fraction
         requires { 1 ≤ den }
-        ensures { result.num * den ≡ num * result.den }
+        ensures { numerator result * den ≡ num * denominator result }
     {
         let common = gcd(num, den);
         Fraction {
@@ -33,14 +34,14 @@ impl Fraction {
 
     /// The numerator.
     pub fn num(&self) -> u128
-        ensures { result ≡ self.now.num }
+        ensures { result ≡ numerator self.now }
     {
         self.num
     }
 
     /// The denominator, at least 1.
     pub fn den(&self) -> u128
-        ensures { result ≡ self.now.den }
+        ensures { result ≡ denominator self.now }
     {
         self.den
     }
@@ -49,23 +50,28 @@ impl Fraction {
     /// denominator `unit`; from the moment `self`, which is at most 1, it falls at the speed `rate`. Every number
     /// on the way is at most 2,000 · 2^116, which is below 2^127.
     pub fn later(self, rest: u128, unit: u128, rate: u128) -> Fraction
-        requires at_most_one { self.num ≤ self.den }
-        requires divides { self.den ∣ unit }
+        requires at_most_one { numerator self ≤ denominator self }
+        requires divides { denominator self ∣ unit }
         requires unit_positive { 1 ≤ unit }
         requires unit_bound { unit ≤ 2 ^ 116 }
         requires rate_positive { 1 ≤ rate }
         requires rate_bound { rate ≤ 1000 }
         requires rest_bound { rest ≤ 1000 * unit }
-        ensures { result.num * (self.den * (unit * rate)) ≡ result.den * (self.num * (unit * rate) + rest * self.den) }
+        ensures { numerator result * (denominator self * (unit * rate))
+            ≡ denominator result * (numerator self * (unit * rate) + rest * denominator self) }
     {
         Fraction::new(self.num * (unit / self.den) * rate + rest, unit * rate)
     }
 }
 
 impl PartialOrd for Fraction {
-    ghost partial_cmp = { as_partial_cmp (λ x y. fraction_cmp x.num x.den y.num y.den) };
+    ghost use Rattle.std.specs.Ordering.{as_partial_cmp};
+    ghost use Rattle.frac128.specs.Order.{cross_laws};
+    ghost use Rattle.frac128.specs.Fraction.{fraction_cmp};
 
-    ghost laws = { fraction_laws (λ x. x.num) (λ x. x.den) (λ x. x.positive) (λ x. x.lowest) };
+    ghost partial_cmp = { as_partial_cmp fraction_cmp };
+
+    ghost laws = { cross_laws (λ x. x.num) (λ x. x.den) (λ x. x.positive) (λ x. x.lowest) };
 
     fn partial_cmp(&self, other: &Fraction) -> Option<Ordering> {
         Some(self.cmp(other))
@@ -73,13 +79,16 @@ impl PartialOrd for Fraction {
 }
 
 impl Ord for Fraction {
-    ghost cmp = { λ x y. fraction_cmp x.num x.den y.num y.den };
+    ghost use Rattle.frac128.specs.Order.{cross_total, cross_ties};
+    ghost use Rattle.frac128.specs.Fraction.{fraction_cmp};
 
-    ghost total = { fraction_cmp_total (λ x. x.num) (λ x. x.den) (λ x. x.positive) };
+    ghost cmp = { fraction_cmp };
+
+    ghost total = { cross_total (λ x. x.num) (λ x. x.den) (λ x. x.positive) };
 
     ghost matches_partial_cmp = { λ x y. refl };
 
-    ghost matches_eq = { fraction_ties (λ x. x.num) (λ x. x.den) (λ x. x.positive) (λ x. x.lowest) };
+    ghost matches_eq = { cross_ties (λ x. x.num) (λ x. x.den) (λ x. x.positive) (λ x. x.lowest) };
 
     fn cmp(&self, other: &Fraction) -> Ordering {
         compare(self.num, self.den, other.num, other.den)
@@ -90,7 +99,7 @@ impl Ord for Fraction {
 fn compare(mut a: u128, mut b: u128, mut c: u128, mut d: u128) -> Ordering
     requires b_positive { 1 ≤ b }
     requires d_positive { 1 ≤ d }
-    ensures { result ≡ fraction_cmp a b c d }
+    ensures { result ≡ cross_cmp a b c d }
 {
     loop {
         let by_quotient = (a / b).cmp(&(c / d));

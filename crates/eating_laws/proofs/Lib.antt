@@ -1,0 +1,16 @@
+pub mod Assignment
+pub mod Bound
+pub mod Columns
+pub mod Envy
+pub mod Feasible
+pub mod Fine
+pub mod Full
+pub mod Holders
+pub mod Limits
+pub mod Line
+pub mod Moments
+pub mod Right
+pub mod Shares
+pub mod Sums
+pub mod TooFine
+pub mod Unique

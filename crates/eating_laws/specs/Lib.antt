@@ -1,0 +1,4 @@
+pub mod Denominators
+pub mod Problems
+pub mod Shares
+pub mod Tables

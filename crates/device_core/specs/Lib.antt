@@ -1,0 +1,7 @@
+pub mod Continuing
+pub mod Counts
+pub mod Held
+pub mod Memory
+pub mod Stream
+pub mod Sure
+pub mod Told

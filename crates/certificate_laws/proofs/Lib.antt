@@ -1,0 +1,15 @@
+pub mod Lists
+pub mod Listed
+pub mod Rows
+pub mod Prices
+pub mod Limits
+pub mod Worths
+pub mod Duality
+pub mod Carry
+pub mod Dominance
+pub mod OffLists
+pub mod Near
+pub mod PrefixSets
+pub mod GuardBound
+pub mod GuardedFamily
+pub mod GuardedSides

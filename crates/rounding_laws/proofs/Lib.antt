@@ -1,0 +1,10 @@
+pub mod Allowed
+pub mod Edges
+pub mod Falls
+pub mod Named
+pub mod Peeling
+pub mod Places
+pub mod Quotas
+pub mod Remainder
+pub mod Rounded
+pub mod Taken

@@ -1,0 +1,4 @@
+pub mod Named
+pub mod Peeling
+pub mod Quotas
+pub mod Remainders

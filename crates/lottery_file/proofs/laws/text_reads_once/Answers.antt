@@ -1,0 +1,11 @@
+use Rattle.lottery_file.proofs.ReadOnce.{one-value, one-fault, not-both}
+use Rattle.lottery_file.proofs.laws.text_reads_once.Goals as goal
+
+pub returns-clause-value : goal.returns-clause-value
+returns-clause-value c = one-value
+
+pub returns-clause-fault : goal.returns-clause-fault
+returns-clause-fault c = one-fault
+
+pub returns-clause-either : goal.returns-clause-either
+returns-clause-either c = not-both

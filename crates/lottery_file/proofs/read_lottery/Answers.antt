@@ -1,0 +1,16 @@
+use Rattle.std.proofs.Common.{◌∙◌, sym, ap, subst}
+use Rattle.definitions.specs.Sets.{IsScaledMatrix}
+use Rattle.lottery_file.specs.Said.{Before}
+use Rattle.lottery_file.specs.Lotteries.{lottery_of, IsLawfulLottery}
+use Rattle.lottery_file.proofs.Sound.{reads-lawful}
+use Rattle.lottery_file.proofs.read_lottery.Goals as goal
+
+pub finished-requires : goal.finished-requires
+finished-requires c =
+    let reads = c.in-Ok-read_records.ensures in
+    subst (λ (b : Before). IsScaledMatrix (lottery_of b).shares) (sym reads.1) ((reads-lawful c.in-Ok.rows reads.0).lottery.shares)
+
+pub returns-in-Ok-read_records-clause-lawful : goal.returns-in-Ok-read_records-clause-lawful
+returns-in-Ok-read_records-clause-lawful c =
+    let reads = c.in-Ok-read_records.ensures in
+    subst IsLawfulLottery (sym (c.finished.ensures ∙ ap lottery_of reads.1)) (reads-lawful c.in-Ok.rows reads.0)

@@ -1,0 +1,7 @@
+pub mod Kinds
+pub mod Said
+pub mod Checks
+pub mod Lotteries
+pub mod Records
+pub mod Reading
+pub mod Written

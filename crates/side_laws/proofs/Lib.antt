@@ -1,0 +1,8 @@
+pub mod Cells
+pub mod ChainSums
+pub mod Chains
+pub mod Members
+pub mod Order
+pub mod Rings
+pub mod Rows
+pub mod Trees

@@ -1,0 +1,9 @@
+use Rattle.std.proofs.Common.{◌∙◌, ◌+◌, sym, arith, ap, ◌&&◌, drop}
+use Rattle.plane_kernel.proofs.Words.{within_step}
+use Rattle.plane_kernel.specs.Words.{words_within}
+use Rattle.plane_kernel.proofs.within_words.Goals as goal
+
+pub loop-at-preserved : goal.loop-at-preserved
+loop-at-preserved c =
+    let step = within_step c.loop-at.at 8 c.args.a.now c.args.b.now (omega arith) c.requires in
+    record { within = omega arith; left = c.loop-at.invariant.left ∙ step ∙ ap (λ t. t && words_within (drop (c.loop-at.at + 8) c.args.a.now) (drop (c.loop-at.at + 8) c.args.b.now)) (sym c.within_lanes.ensures ∙ c.if-not-within_lanes.false) }

@@ -1,0 +1,96 @@
+-- One outcome at most, and what follows for a whole run.
+use Rattle.std.proofs.Common.{◌≡◌, ◌⊎◌, ℕ, List, [], ◌∷◌, refl, sym, ◌∙◌, ap, subst, Option, Result, Ok, Err, None, Some, inl, inr}
+use Rattle.std.specs.Prelude.{MatchOption, ◌↔◌}
+use Rattle.device_core.specs.Counts.{Rose}
+use Rattle.alloc_cli.specs.declared.causes.Cause.{Cause}
+use Rattle.alloc_cli.specs.declared.causes.Cause.TheVariants as causes
+use Rattle.alloc_cli.specs.declared.words.Command.{Command}
+use Rattle.alloc_cli.specs.declared.words.Command.TheVariants as commands
+use Rattle.alloc_cli.specs.Words.{command_of, file_count}
+use Rattle.alloc_cli.specs.Answers.{Answer, refuse, text, Then, Follows, Gives, LotteryReads, lottery_cause, ticket_within, PickedAnswers, PickAnswers}
+use Rattle.alloc_cli.specs.Picks.{picked_text}
+use Rattle.alloc_cli.proofs.Readings.{one_lottery}
+use Rattle.alloc_cli.specs.Outcomes.{within, Answers, Outcome, RefusesAlone}
+use Rattle.alloc_cli.specs.Runs.{Ends, IsGiven, IsUnread, FilesCount, OutCount, names_of}
+use Rattle.alloc_cli.specs.Top.{Ran, Unread, Read, Refusal}
+use Rattle.alloc_cli.specs.Complete.{loaded, IsDue, Completes}
+
+then_alone : {A : Type 0} (r : Result A Cause) (rest : A → Answer → Type 0) → ((x : A) → RefusesAlone (rest x)) → RefusesAlone (Then r rest)
+then_alone (Ok x) rest alone due answer h k = alone x due answer h k
+then_alone (Err cause) rest alone due answer h k = k ∙ sym h
+
+follows_alone : {A F : Type 0} (cause_of : F → Cause) (rest : A → Answer → Type 0) → ((x : A) → RefusesAlone (rest x)) → (r : Result A F) → RefusesAlone (Follows cause_of rest r)
+follows_alone cause_of rest alone (Ok x) due answer h k = alone x due answer h k
+follows_alone cause_of rest alone (Err f) due answer h k = k ∙ sym h
+
+-- a step by a relation that has one answer
+gives_alone : {A F : Type 0} (cause_of : F → Cause) (relation : Result A F → Type 0) (rest : A → Answer → Type 0) → ((r s : Result A F) → relation r → relation s → r ≡ s) → ((x : A) → RefusesAlone (rest x)) → RefusesAlone (Gives cause_of relation rest)
+gives_alone {A} {F} cause_of relation rest one alone due answer h k =
+    let same : k.found ≡ h.found = one k.found h.found k.holds h.holds in
+    let P : Result A F → Type 0 = λ r. Follows cause_of rest r answer in
+    follows_alone cause_of rest alone h.found due answer h.follows (subst P same k.follows)
+
+text_alone : (t : List ℕ) → RefusesAlone (λ answer. answer ≡ text t)
+text_alone t due answer h k = k ∙ sym h
+
+-- what a text reads as decides, and then the ticket
+pick_alone : (ticket : ℕ) (bytes : List ℕ) → RefusesAlone (PickAnswers ticket bytes)
+pick_alone ticket bytes =
+    gives_alone lottery_cause (LotteryReads bytes) (PickedAnswers ticket) (one_lottery bytes) (λ l.
+    then_alone (ticket_within ticket l.shares.denominator) (λ t answer. answer ≡ text (picked_text l t)) (λ t. text_alone (picked_text l t)))
+
+answers_alone : (command : Command) (given : List (List ℕ)) → RefusesAlone (Answers command given)
+answers_alone (commands.Pick ticket) [] due answer h k = absurd h
+answers_alone (commands.Pick ticket) (bytes ∷ []) due answer h k = pick_alone ticket bytes due answer h k
+answers_alone (commands.Pick ticket) (bytes ∷ next ∷ more) due answer h k = absurd h
+
+pub outcome_alone : (command : Command) (given : List (List ℕ)) → RefusesAlone (Outcome command given)
+outcome_alone command given = then_alone (within given) (Answers command) (answers_alone command)
+
+-- a cause of an outcome is the one that is due
+due_from_answer : (outcome : Answer → Type 0) → RefusesAlone outcome → (cause : Cause) → outcome (refuse cause) → ((due : Cause) → outcome (refuse due) → cause ≡ due) × ((t : List ℕ) → outcome (text t) → cause ≡ causes.Done)
+due_from_answer outcome alone cause h = ((λ due k. let e = alone due (refuse cause) k h in cc), (λ t k. let e = alone cause (text t) h k in cc))
+
+due_refused : (command : Command) (given : List (List ℕ)) (cause : Cause) → Outcome command given (refuse cause) → IsDue command given cause
+due_refused command given cause h = let p = due_from_answer (Outcome command given) (outcome_alone command given) cause h in record { refused = p.0; done = p.1; otherwise = λ none. absurd (none cause h) }
+
+due_done : (command : Command) (given : List (List ℕ)) (t : List ℕ) → Outcome command given (text t) → IsDue command given causes.Done
+due_done command given t h = record { refused = λ due k. let e = outcome_alone command given due (text t) k h in cc; done = λ s k. refl; otherwise = λ none. refl }
+
+-- what an end of a run shows, where no count rose and memory was there
+due_from_end : {K : Type 0} (written : K → Option (List ℕ)) (flushed : K → ℕ) (command : Command) (given : List (List ℕ)) (old new : K) (cause : Cause) (out out' : ℕ) → Ends written flushed (Outcome command given) old new cause → OutCount out out' cause → (Rose out out' → ⊥) → (cause ≡ causes.NoMemory → ⊥) → IsDue command given cause
+due_from_end written flushed command given old new causes.Done out out' ends count calm memory = due_done command given ends.wrote.whole ends.wrote.allowed
+due_from_end written flushed command given old new causes.WriteFault out out' ends count calm memory = absurd (calm count.rose)
+due_from_end written flushed command given old new causes.NoMemory out out' ends count calm memory = absurd (memory refl)
+due_from_end written flushed command given old new cause out out' ends count calm memory = due_refused command given cause ends.due
+
+unread_none : (files : ℕ) (cause : Cause) (before now : ℕ) → IsUnread files cause → FilesCount before now cause → (Rose before now → ⊥) → (cause ≡ causes.NoMemory → ⊥) → ⊥
+unread_none files (causes.ReadFault file) before now unread count calm memory = calm count.rose
+unread_none files causes.NoMemory before now unread count calm memory = memory refl
+unread_none files _ before now unread count calm memory = unread
+
+pub given_is : (held : Option (List (List ℕ × List ℕ))) (files : List (List ℕ × List ℕ)) (names given : List (List ℕ)) → held ≡ Some files → IsGiven held names given → given ≡ loaded files names
+given_is None files names given e gave = cc
+given_is (Some own) files names given e gave = let same : own ≡ files = cc in gave.told ∙ ap (λ f. loaded f names) same
+
+completes_when : {K : Type 0} (written : K → Option (List ℕ)) (flushed : K → ℕ) (held : Option (List (List ℕ × List ℕ))) (words : List (List ℕ)) (old new : K) (cause : Cause) (before now out out' : ℕ) (found : Option Command) → MatchOption found (Refusal written flushed old new cause) (λ it. Unread written flushed it old new cause ⊎ Read written flushed held it words old new cause) → FilesCount before now cause → OutCount out out' cause → (command : Command) (files : List (List ℕ × List ℕ)) → found ≡ Some command → held ≡ Some files → (Rose before now → ⊥) → (Rose out out' → ⊥) → (cause ≡ causes.NoMemory → ⊥) → IsDue command (loaded files (names_of command words)) cause
+completes_when written flushed held words old new cause before now out out' None ran read write command files e told calm_files calm_out memory = cc
+completes_when written flushed held words old new cause before now out out' (Some it) (inl unread) read write command files e told calm_files calm_out memory = absurd (unread_none (file_count it) cause before now unread.unread read calm_files memory)
+completes_when written flushed held words old new cause before now out out' (Some it) (inr gave) read write command files e told calm_files calm_out memory =
+    let same : it ≡ command = cc in
+    let given : gave.given ≡ loaded files (names_of command words) = given_is held files (names_of it words) gave.given told gave.gave ∙ ap (λ c. loaded files (names_of c words)) same in
+    rw (← given, ← same) (due_from_end written flushed it gave.given old new cause out out' gave.ends write calm_out memory)
+
+pub completes : {K : Type 0} (written : K → Option (List ℕ)) (flushed : K → ℕ) (held : Option (List (List ℕ × List ℕ))) (words : List (List ℕ)) (old new : K) (cause : Cause) (before now out out' : ℕ) → Ran written flushed held words old new cause → FilesCount before now cause → OutCount out out' cause → Completes held words before now out out' cause
+completes written flushed held words old new cause before now out out' ran read write = completes_when written flushed held words old new cause before now out out' (command_of words) ran read write
+
+not_usage : {K : Type 0} (written : K → Option (List ℕ)) (flushed : K → ℕ) (outcome : Answer → Type 0) (old new : K) (cause : Cause) → cause ≡ causes.Usage → Ends written flushed outcome old new cause → ⊥
+not_usage written flushed outcome old new cause e ends = let P : Cause → Type 0 = λ x. Ends written flushed outcome old new x in let here : Ends written flushed outcome old new causes.Usage = subst P e ends in here.kind
+
+usage_when : {K : Type 0} (written : K → Option (List ℕ)) (flushed : K → ℕ) (held : Option (List (List ℕ × List ℕ))) (words : List (List ℕ)) (old new : K) (cause : Cause) (found : Option Command) → MatchOption found (Refusal written flushed old new cause) (λ it. Unread written flushed it old new cause ⊎ Read written flushed held it words old new cause) → (cause ≡ causes.Usage) ↔ (found ≡ None)
+usage_when written flushed held words old new cause None ran = ((λ e. refl), (λ e. ran.usage))
+usage_when written flushed held words old new cause (Some it) (inl unread) = ((λ e. absurd (rw e at unread.unread)), (λ e. cc))
+usage_when written flushed held words old new cause (Some it) (inr gave) = ((λ e. absurd (not_usage written flushed _ old new cause e gave.ends)), (λ e. cc))
+
+pub usage_exactly : {K : Type 0} (written : K → Option (List ℕ)) (flushed : K → ℕ) (held : Option (List (List ℕ × List ℕ))) (words : List (List ℕ)) (old new : K) (cause : Cause) → Ran written flushed held words old new cause → (cause ≡ causes.Usage) ↔ (command_of words ≡ None)
+usage_exactly written flushed held words old new cause ran = usage_when written flushed held words old new cause (command_of words) ran

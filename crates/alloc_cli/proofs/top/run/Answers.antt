@@ -1,0 +1,17 @@
+use Rattle.std.proofs.Common.{map, string_bytes, rules}
+use Rattle.alloc_cli.specs.Runs.{FilesCount, OutCount}
+use Rattle.alloc_cli.proofs.Ending.{ran_from_begun}
+use Rattle.alloc_cli.proofs.Completing.{completes, usage_exactly}
+use Rattle.alloc_cli.proofs.top.run.Goals as goal
+
+pub returns-clause-answer : goal.returns-clause-answer
+returns-clause-answer g c = ran_from_begun g.K.Sink.written g.K.Sink.flushed (g.F.Files.held c.args.files.now) (map string_bytes c.args.words.now) c.args.out.now c.begin-written.new.out c.finish.new.out c.begin-written.result c.finish.result.cause c.begin-written.ensures.begun c.finish.ensures.bytes c.finish.ensures.cause
+
+pub returns-clause-complete : goal.returns-clause-complete
+returns-clause-complete g c =
+    let read : FilesCount (g.F.Files.faults c.args.files.now) (g.F.Files.faults c.begin-written.new.files) c.finish.result.cause = search rules in
+    let write : OutCount (g.K.Sink.faults c.args.out.now) (g.K.Sink.faults c.finish.new.out) c.finish.result.cause = search rules in
+    completes g.K.Sink.written g.K.Sink.flushed (g.F.Files.held c.args.files.now) (map string_bytes c.args.words.now) c.args.out.now c.finish.new.out c.finish.result.cause _ _ _ _ (returns-clause-answer g c) read write
+
+pub returns-clause-usage : goal.returns-clause-usage
+returns-clause-usage g c = usage_exactly g.K.Sink.written g.K.Sink.flushed (g.F.Files.held c.args.files.now) (map string_bytes c.args.words.now) c.args.out.now c.finish.new.out c.finish.result.cause (returns-clause-answer g c)

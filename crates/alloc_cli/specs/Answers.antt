@@ -1,0 +1,50 @@
+-- Answers of a command, and how those of its steps make its own.
+use Rattle.std.specs.Prelude.{◌≡◌, ℕ, List, Result, Ok, Err, if◌then◌else◌, nat_lt}
+use Rattle.definitions.specs.Lotteries.{LotteryValue}
+use Rattle.lottery_file.specs.Lotteries.{TextReadsAs, TextHasFault}
+use Rattle.lottery_file.specs.declared.faults.LotteryFault.{LotteryFault}
+use Rattle.alloc_cli.specs.Picks.{picked_text}
+use Rattle.alloc_cli.specs.declared.causes.Cause.{Cause}
+use Rattle.alloc_cli.specs.declared.causes.Cause.TheVariants as causes
+
+-- a refusal, or a text that may be written
+pub data Answer : Type 0 where
+  refuse : Cause → Answer
+  text : List ℕ → Answer
+
+-- a step that may refuse, and then the rest of the command
+abbrev pub Then : {A : Type 0} → Result A Cause → (A → Answer → Type 0) → Answer → Type 0
+Then (Ok x) rest answer = rest x answer
+Then (Err cause) rest answer = answer ≡ refuse cause
+
+-- the same of a step with a fault of its own
+abbrev pub Follows : {A F : Type 0} → (F → Cause) → (A → Answer → Type 0) → Result A F → Answer → Type 0
+Follows cause_of rest (Ok x) answer = rest x answer
+Follows cause_of rest (Err fault) answer = answer ≡ refuse (cause_of fault)
+
+-- the same of a step that a relation describes
+pub record Gives {A F : Type 0} (cause_of : F → Cause) (relation : Result A F → Type 0) (rest : A → Answer → Type 0) (answer : Answer) : Type 0 where
+  pub found : Result A F
+  pub holds : relation found
+  pub follows : Follows cause_of rest found answer
+
+-- a text reads as a lottery, or it has this first fault
+abbrev pub LotteryReads : List ℕ → Result LotteryValue LotteryFault → Type 0
+LotteryReads bytes (Ok l) = TextReadsAs bytes l
+LotteryReads bytes (Err fault) = TextHasFault bytes fault.record_no fault.kind
+
+-- the cause of that fault
+abbrev pub lottery_cause : LotteryFault → Cause
+lottery_cause fault = causes.Lottery fault
+
+-- a ticket below the denominator
+abbrev pub ticket_within : ℕ → ℕ → Result ℕ Cause
+ticket_within ticket denominator = if nat_lt ticket denominator then Ok ticket else Err (causes.TicketOutOfRange ticket denominator)
+
+-- the text of a ticket's piece, where there is such a ticket
+abbrev pub PickedAnswers : ℕ → LotteryValue → Answer → Type 0
+PickedAnswers ticket l = Then (ticket_within ticket l.shares.denominator) (λ t answer. answer ≡ text (picked_text l t))
+
+-- `pick LOTTERY TICKET`
+abbrev pub PickAnswers : ℕ → List ℕ → Answer → Type 0
+PickAnswers ticket bytes = Gives lottery_cause (LotteryReads bytes) (PickedAnswers ticket)

@@ -1,0 +1,13 @@
+pub mod Faults
+pub mod Causes
+pub mod Parts
+pub mod Words
+pub mod Picks
+pub mod Answers
+pub mod Outcomes
+pub mod Runs
+pub mod Complete
+pub mod Steps
+pub mod Finish
+pub mod Load
+pub mod Top

@@ -1,0 +1,20 @@
+//! The commands of `lottery`: words, files and sinks go in, a status and a cause come out.
+#![tactic(auto)]
+
+mod answer;
+mod causes;
+mod faults;
+mod finish;
+mod lines;
+mod load;
+mod parts;
+mod picks;
+mod steps;
+#[cfg(test)]
+mod tests;
+mod top;
+mod words;
+
+pub use causes::{Cause, Ended};
+pub use faults::{Fault, InputFault, InputKind};
+pub use top::{one_answer, run};

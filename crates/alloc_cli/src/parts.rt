@@ -1,0 +1,108 @@
+// Text that is written in parts, without memory.
+ghost use Rattle.std.specs.Prelude.{◌≡◌, ◌++◌, codes, decimal};
+ghost use Rattle.std.specs.Fmt.{signed_decimal};
+ghost use Rattle.device_core.specs.Told.{Appended};
+ghost use Rattle.device_core.specs.Counts.{WriteCounts};
+ghost use Rattle.alloc_cli.specs.Parts.{part_text, parts_text, blank_text, spaced_text};
+
+use device_core::{Sink, SinkFault};
+use table_text::digits;
+
+/// A part of a line: a fixed text, or a number in its shortest decimal text.
+#[derive(Clone, Copy)]
+pub enum Part {
+    Text(&'static str),
+    U8(u8),
+    U32(u32),
+    U64(u64),
+    U128(u128),
+    I64(i64),
+}
+
+fn write_number<K: Sink>(number: u128, out: &mut K) -> Result<(), SinkFault>
+    ensures bytes { Appended (K.written out.old) (K.written out.new) (decimal number) result }
+    ensures flushed { K.flushed out.new ≡ K.flushed out.old }
+    ensures cause { WriteCounts (K.faults out.old) (K.faults out.new) (K.short out.old) (K.short out.new) result }
+{
+    let mut text = [0u8; 39];
+    let length = digits(number, &mut text);
+    out.write(&text[..length])
+}
+
+// The number with `-` before it.
+fn write_negative<K: Sink>(size: u128, out: &mut K) -> Result<(), SinkFault>
+    ensures bytes { Appended (K.written out.old) (K.written out.new) (codes "-" ++ decimal size) result }
+    ensures flushed { K.flushed out.new ≡ K.flushed out.old }
+    ensures cause { WriteCounts (K.faults out.old) (K.faults out.new) (K.short out.old) (K.short out.new) result }
+{
+    out.write(b"-")?;
+    write_number(size, out)
+}
+
+fn write_signed<K: Sink>(number: i64, out: &mut K) -> Result<(), SinkFault>
+    ensures bytes { Appended (K.written out.old) (K.written out.new) (signed_decimal number) result }
+    ensures flushed { K.flushed out.new ≡ K.flushed out.old }
+    ensures cause { WriteCounts (K.faults out.old) (K.faults out.new) (K.short out.old) (K.short out.new) result }
+{
+    let size = number.unsigned_abs();
+    if number < 0 {
+        write_negative(size as u128, out)
+    } else {
+        write_number(size as u128, out)
+    }
+}
+
+fn write_part<K: Sink>(part: Part, out: &mut K) -> Result<(), SinkFault>
+    ensures bytes { Appended (K.written out.old) (K.written out.new) (part_text part) result }
+    ensures flushed { K.flushed out.new ≡ K.flushed out.old }
+    ensures cause { WriteCounts (K.faults out.old) (K.faults out.new) (K.short out.old) (K.short out.new) result }
+{
+    match part {
+        Part::Text(text) => out.write(text.as_bytes()),
+        Part::U8(number) => write_number(number as u128, out),
+        Part::U32(number) => write_number(number as u128, out),
+        Part::U64(number) => write_number(number as u128, out),
+        Part::U128(number) => write_number(number, out),
+        Part::I64(number) => write_signed(number, out),
+    }
+}
+
+/// Writes the parts in order. A refusal ends it there.
+pub fn write_parts<K: Sink>(parts: &[Part], out: &mut K) -> Result<(), SinkFault>
+    ensures bytes { Appended (K.written out.old) (K.written out.new) (parts_text parts.now) result }
+    ensures flushed { K.flushed out.new ≡ K.flushed out.old }
+    ensures cause { WriteCounts (K.faults out.old) (K.faults out.new) (K.short out.old) (K.short out.new) result }
+{
+    match parts {
+        [] => Ok(()),
+        [part, rest @ ..] => {
+            write_part(*part, out)?;
+            write_parts(rest, out)
+        }
+    }
+}
+
+// A part after a blank.
+fn write_after_blank<K: Sink>(part: Part, out: &mut K) -> Result<(), SinkFault>
+    ensures bytes { Appended (K.written out.old) (K.written out.new) (blank_text part) result }
+    ensures flushed { K.flushed out.new ≡ K.flushed out.old }
+    ensures cause { WriteCounts (K.faults out.old) (K.faults out.new) (K.short out.old) (K.short out.new) result }
+{
+    out.write(b" ")?;
+    write_part(part, out)
+}
+
+/// Writes the parts in order, each after a blank. A refusal ends it there.
+pub fn write_spaced<K: Sink>(parts: &[Part], out: &mut K) -> Result<(), SinkFault>
+    ensures bytes { Appended (K.written out.old) (K.written out.new) (spaced_text parts.now) result }
+    ensures flushed { K.flushed out.new ≡ K.flushed out.old }
+    ensures cause { WriteCounts (K.faults out.old) (K.faults out.new) (K.short out.old) (K.short out.new) result }
+{
+    match parts {
+        [] => Ok(()),
+        [part, rest @ ..] => {
+            write_after_blank(*part, out)?;
+            write_spaced(rest, out)
+        }
+    }
+}

@@ -1,0 +1,136 @@
+// The text of the piece of a ticket.
+ghost use Rattle.std.specs.Prelude.{◌≡◌, ◌<◌, ◌++◌, ◌∷◌, [], codes, map, slice_index_or, IfOk, OnOk};
+ghost use Rattle.std.specs.Fmt.{decimal};
+ghost use Rattle.definitions.specs.Values.{piece_value};
+ghost use Rattle.lottery_file.specs.Lotteries.{lottery_value, IsLawfulLottery};
+ghost use Rattle.lottery_file.specs.Written.{give_row};
+ghost use Rattle.table_text.specs.Rows.{rows_text};
+ghost use Rattle.alloc_cli.specs.Picks.{picked_text, ticket_rows};
+
+use lottery_file::Lottery;
+use quota_sets::{Give, Names, Piece};
+use seed_draw::piece_in;
+use std::alloc::Global;
+use table_text::{NoMemory, Row, digits, row_bytes};
+
+// Adds the text of a number as the last field.
+fn push_number(row: &mut Row, number: u128) -> Result<(), NoMemory>
+    ensures { OnOk result (row.new ≡ row.old ++ decimal number ∷ []) }
+{
+    let mut text = [0u8; 39];
+    let length = digits(number, &mut text);
+    row.push(&text[..length])
+}
+
+// A record of a word and two numbers.
+fn row_of_two(alloc: Global, word: &[u8], first: u128, second: u128) -> Result<Row, NoMemory>
+    ensures { IfOk result (λ row. row ≡ word.now ∷ decimal first ∷ decimal second ∷ []) }
+{
+    let mut row = Row::new(alloc);
+    row.push(word)?;
+    push_number(&mut row, first)?;
+    push_number(&mut row, second)?;
+    Ok(row)
+}
+
+// The record after the last give.
+fn end_row(alloc: Global, gives: u128) -> Result<Row, NoMemory>
+    ensures { IfOk result (λ row. row ≡ codes "end" ∷ decimal gives ∷ []) }
+{
+    let mut row = Row::new(alloc);
+    row.push(b"end")?;
+    push_number(&mut row, gives)?;
+    Ok(row)
+}
+
+// The name at a place, and nothing past the end.
+fn name_at(names: &Names, place: u32) -> &str
+    ensures { result.now ≡ slice_index_or names.now place [] }
+{
+    match names.at(place) {
+        Some(name) => name,
+        None => "",
+    }
+}
+
+// The record of a give.
+fn give_row(alloc: Global, agents: &Names, columns: &Names, give: Give) -> Result<Row, NoMemory>
+    ensures { IfOk result (λ row. row ≡ give_row agents.now columns.now give) }
+{
+    let mut row = Row::new(alloc);
+    row.push(b"give")?;
+    row.push(name_at(agents, give.agent).as_bytes())?;
+    row.push(name_at(columns, give.object).as_bytes())?;
+    push_number(&mut row, give.count as u128)?;
+    Ok(row)
+}
+
+// Appends a record of a word and two numbers.
+fn put_two(
+    alloc: Global,
+    word: &[u8],
+    first: u128,
+    second: u128,
+    into: &mut Vec<u8>,
+) -> Result<(), NoMemory>
+    ensures { OnOk result (into.new.items ≡ into.old.items ++ rows_text ((word.now ∷ decimal first ∷ decimal second ∷ []) ∷ [])) }
+{
+    let row = row_of_two(alloc, word, first, second)?;
+    row_bytes(alloc, &row, into)
+}
+
+// Appends the record after the last give.
+fn put_end(alloc: Global, gives: u128, into: &mut Vec<u8>) -> Result<(), NoMemory>
+    ensures { OnOk result (into.new.items ≡ into.old.items ++ rows_text ((codes "end" ∷ decimal gives ∷ []) ∷ [])) }
+{
+    let row = end_row(alloc, gives)?;
+    row_bytes(alloc, &row, into)
+}
+
+// Appends the records of gives.
+fn put_gives(
+    alloc: Global,
+    agents: &Names,
+    columns: &Names,
+    gives: &[Give],
+    into: &mut Vec<u8>,
+) -> Result<(), NoMemory>
+    ensures { OnOk result (into.new.items ≡ into.old.items ++ rows_text (map (give_row agents.now columns.now) gives.now)) }
+{
+    for give in gives {
+        let row = give_row(alloc, agents, columns, *give)?;
+        row_bytes(alloc, &row, into)?;
+    }
+    Ok(())
+}
+
+// Appends the records of a ticket and of its piece, which has this number.
+fn put_ticket(
+    alloc: Global,
+    lottery: &Lottery,
+    ticket: u128,
+    piece_no: u128,
+    piece: &Piece,
+    into: &mut Vec<u8>,
+) -> Result<(), NoMemory>
+    ensures { OnOk result (into.new.items ≡ into.old.items ++ rows_text (ticket_rows (lottery_value lottery.now) ticket piece_no (piece_value piece.now))) }
+{
+    put_two(alloc, b"ticket", ticket, lottery.shares.denominator(), into)?;
+    put_two(alloc, b"piece", piece_no, piece.weight, into)?;
+    put_gives(alloc, &lottery.agents, &lottery.columns, &piece.gives, into)?;
+    put_end(alloc, piece.gives.len() as u128, into)?;
+    Ok(())
+}
+
+/// The text of the piece that a ticket names.
+pub fn picked_text(alloc: Global, lottery: &Lottery, ticket: u128) -> Result<Vec<u8>, NoMemory>
+    requires lawful { IsLawfulLottery (lottery_value lottery.now) }
+    requires within { ticket < lottery.now.shares.denominator }
+    ensures { IfOk result (λ text. text.items ≡ picked_text (lottery_value lottery.now) ticket) }
+{
+    let place = piece_in(&lottery.pieces.list, ticket);
+    let piece = &lottery.pieces.list[place];
+    let mut text = Vec::new(alloc);
+    put_ticket(alloc, lottery, ticket, place as u128 + 1, piece, &mut text)?;
+    Ok(text)
+}

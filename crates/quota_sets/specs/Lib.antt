@@ -1,2 +1,5 @@
+pub mod InsertRefusals
 pub mod NameList
+pub mod Numbered
+pub mod Parts
 pub mod Refusals

@@ -1,0 +1,64 @@
+-- The cells of one agent stand in one run.
+use Rattle.std.proofs.Common.{◌≡◌, ℕ, ◌+◌, ◌<◌, ◌≤◌, ◌++◌, ◌∙◌, List, [], ◌∷◌, Bool, true, false, eqb, ltb, leb, filter, length, get_or, take, drop, refl, sym, ap, inl, inr, arith, All}
+use Rattle.std.specs.List.Sorted.{IsPartitionPoint, IsNonDecreasingBy}
+use Rattle.std.proofs.lemmas.Bool.{ne_eqb, eq-eqb, ltb-true, ltb-false, leb-true, leb-false, cases_lt}
+use Rattle.std.proofs.lemmas.List.{take-append-drop, length-take, length-drop, get_or-take, get_or-drop, append-nil}
+use Rattle.std.proofs.lemmas.List.Elements.{All-head, All-tail, filter-append}
+use Rattle.std.proofs.lemmas.List.Sorted.{IsNonDecreasingBy-drop}
+use Rattle.definitions.specs.declared.Cell.{Cell}
+use Rattle.definitions.specs.Sets.{IsBefore, IsRising}
+
+-- a filter that nothing passes, and one that all pass
+filter_none : {X : Type 0} (p : X → Bool) (xs : List X) → All (λ x. p x ≡ false) xs → filter p xs ≡ []
+filter_none p [] none = refl
+filter_none p (x ∷ xs) none = rw (All-head (λ y. p y ≡ false) x xs none) (filter_none p xs (All-tail (λ y. p y ≡ false) x xs none))
+
+filter_all : {X : Type 0} (p : X → Bool) (xs : List X) → All (λ x. p x ≡ true) xs → filter p xs ≡ xs
+filter_all p [] all = refl
+filter_all p (x ∷ xs) all = rw (All-head (λ y. p y ≡ true) x xs all) (ap (λ ys. x ∷ ys) (filter_all p xs (All-tail (λ y. p y ≡ true) x xs all)))
+
+-- a filter by a front in which none passes, a middle in which all pass and a rest in which none passes
+filter_middle : {X : Type 0} (p : X → Bool) (xs : List X) (s n : ℕ)
+    → All (λ x. p x ≡ false) (take s xs) → All (λ x. p x ≡ true) (take n (drop s xs)) → All (λ x. p x ≡ false) (drop n (drop s xs))
+    → take n (drop s xs) ≡ filter p xs
+filter_middle p xs s n front middle rest =
+    let whole : filter p xs ≡ filter p (take s xs) ++ filter p (drop s xs) = ap (filter p) (sym (take-append-drop s xs)) ∙ filter-append p (take s xs) (drop s xs) in
+    let later : filter p (drop s xs) ≡ filter p (take n (drop s xs)) ++ filter p (drop n (drop s xs)) = ap (filter p) (sym (take-append-drop n (drop s xs))) ∙ filter-append p (take n (drop s xs)) (drop n (drop s xs)) in
+    sym (whole ∙ rw (filter_none p (take s xs) front, later, filter_all p (take n (drop s xs)) middle, filter_none p (drop n (drop s xs)) rest) (append-nil (take n (drop s xs))))
+
+-- rising cells do not fall by agent
+pub rising_agents : (cells : List Cell) → IsRising cells → IsNonDecreasingBy (λ (c : Cell). c.agent) cells
+rising_agents cells rises i j d l m = elim (cases_lt i j) [
+  | inl before ↦ agents (get_or cells i d) (get_or cells j d) (rises i j d before m)
+  | inr from ↦ (let same : i ≡ j = omega arith in let e = ap (λ k. (get_or cells k d).agent) same in omega (arith, e))
+]
+  where
+    agents : (a b : Cell) → IsBefore a b → a.agent ≤ b.agent
+    agents a b (inl l) = omega arith
+    agents a b (inr l) = omega (arith, l.0)
+
+pub rest_rises : (cells : List Cell) (s : ℕ) → IsNonDecreasingBy (λ (c : Cell). c.agent) cells → IsNonDecreasingBy (λ (c : Cell). c.agent) (drop s cells)
+rest_rises cells s rises = IsNonDecreasingBy-drop (λ (c : Cell). c.agent) s cells rises
+
+-- between the first cell that is not before the agent and the first after it stand its cells
+pub run_is_filter : (cells : List Cell) (agent s n : ℕ)
+    → IsPartitionPoint (λ c. ltb c.agent agent ≡ true) (λ c. ltb c.agent agent ≡ false) cells s
+    → IsPartitionPoint (λ c. leb c.agent agent ≡ true) (λ c. leb c.agent agent ≡ false) (drop s cells) n
+    → take n (drop s cells) ≡ filter (λ c. eqb c.agent agent) cells
+run_is_filter cells agent s n first second = filter_middle (λ c. eqb c.agent agent) cells s n
+    (λ k d l.
+    let low : k < s = omega (arith, length-take s cells) in
+    let before = ltb-true (get_or cells k d).agent agent (first.0 k d (omega arith) low) in
+    rw (get_or-take s cells k d low) (ne_eqb (get_or cells k d).agent agent (λ e. absurd (omega arith))))
+    (λ k d l.
+    let low : k < n = omega (arith, length-take n (drop s cells)) in
+    let inside : s + k < length cells = omega (arith, length-take n (drop s cells), length-drop s cells) in
+    let at = get_or-drop s cells k d in
+    let upto = leb-true (get_or (drop s cells) k d).agent agent (second.0 k d (omega arith) low) in
+    let from = ltb-false (get_or cells (s + k) d).agent agent (first.1 (s + k) d (omega arith) inside) in
+    let agents = ap (λ (c : Cell). c.agent) at in
+    rw (get_or-take n (drop s cells) k d low) (eq-eqb (get_or (drop s cells) k d).agent agent (omega arith)))
+    (λ k d l.
+    let inside : n + k < length (drop s cells) = omega (arith, length-drop n (drop s cells)) in
+    let after = leb-false (get_or (drop s cells) (n + k) d).agent agent (second.1 (n + k) d (omega arith) inside) in
+    rw (get_or-drop n (drop s cells) k d) (ne_eqb (get_or (drop s cells) (n + k) d).agent agent (λ e. absurd (omega arith))))

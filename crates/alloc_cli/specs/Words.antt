@@ -6,13 +6,13 @@ use Rattle.definitions.specs.Texts.{count_of}
 use Rattle.alloc_cli.specs.declared.words.Command.{Command}
 use Rattle.alloc_cli.specs.declared.words.Command.TheVariants as commands
 
--- the forms of two words after the name
-abbrev pub form_of_two : (name first second : List ℕ) → Option Command
-form_of_two name first second = if bytes_eq name (codes "pick") then option_map (λ ticket. commands.Pick ticket) (count_of second) else None
+-- the forms of two words after the name, of which the first names a file
+abbrev pub form_of_two : (name second : List ℕ) → Option Command
+form_of_two name second = if bytes_eq name (codes "pick") then option_map (λ ticket. commands.Pick ticket) (count_of second) else None
 
 -- the command that the words are a form of
 abbrev pub command_of : List (List ℕ) → Option Command
-command_of (name ∷ first ∷ second ∷ []) = form_of_two name first second
+command_of (name ∷ first ∷ second ∷ []) = form_of_two name second
 command_of _ = None
 
 -- how many files it loads: the words after its name

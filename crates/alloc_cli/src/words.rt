@@ -22,11 +22,10 @@ impl Command {
     }
 }
 
-// The command of two words after the name.
-fn parse_two(name: &str, first: &str, second: &str) -> Option<Command>
-    ensures { result ≡ form_of_two name.now first.now second.now }
+// The command of this name and two more words, of which the first names a file.
+fn parse_two(name: &str, second: &str) -> Option<Command>
+    ensures { result ≡ form_of_two name.now second.now }
 {
-    let _any_file = first;
     match name {
         "pick" => {
             let ticket = read_count(second.as_bytes())?;
@@ -42,7 +41,7 @@ pub fn parse(words: &[String]) -> Option<Command>
     ensures files { IfSome result (λ command. file_count command + 1 ≤ length words.now) }
 {
     match words {
-        [name, first, second] => parse_two(name.as_str(), first.as_str(), second.as_str()),
+        [name, _, second] => parse_two(name.as_str(), second.as_str()),
         _ => None,
     }
 }

@@ -146,7 +146,6 @@ impl Family {
         ensures value { result ≡ set_sum (units_of x.now) (set_cells self.now set) }
         ensures lawful { IsFamily self.now }
     {
-        let _agents = self.agents();
         x.sum_over(self.get(set).unwrap())
     }
 }

@@ -1,0 +1,20 @@
+-- The tables of trees while they are made.
+use Rattle.std.specs.Prelude.{◌≡◌, ℕ, ◌-◌, ◌*◌, ◌<◌, ◌⊎◌, List, Option, None, length, MatchOption, slice_index_or, All}
+use Rattle.definitions.specs.declared.Cell.{Cell}
+use Rattle.definitions.specs.Sets.{FamilyValue, IsSet, IsCellWithin, cell_index}
+use Rattle.definitions.specs.Hierarchies.{IsLower, IsHolder, IsEntry, IsParent, HasNoParent}
+
+-- one entry for each set: its parent, or none where it has none
+pub record AreParents (f : FamilyValue) (parents : List (Option ℕ)) : Type 0 where
+  pub many : length parents ≡ length f.sets
+  pub right : (s : ℕ) → IsSet f s → MatchOption (slice_index_or parents (s - 1) None) (HasNoParent f s) (IsParent f s)
+
+-- o is the least by size and then number of the sets with numbers below n of which P holds, or none where there is none
+abbrev pub IsLeastOf : FamilyValue → (ℕ → Type 0) → ℕ → Option ℕ → Type 0
+IsLeastOf f P n o = MatchOption o ((u : ℕ) → u < n → P u → ⊥) (λ t. P t × ((u : ℕ) → u < n → P u → (u ≡ t) ⊎ IsLower f t u))
+
+-- one entry for each cell, row by row: of the sets of a side with numbers below n that hold it, the least, or none
+pub record AreDeepest (f : FamilyValue) (side n : ℕ) (table : List (Option ℕ)) : Type 0 where
+  pub many : length table ≡ f.agents * f.columns
+  pub entries : All (IsEntry (length f.sets)) table
+  pub right : (c : Cell) → IsCellWithin f.agents f.columns c → IsLeastOf f (IsHolder f side c) n (slice_index_or table (cell_index f.columns c) None)

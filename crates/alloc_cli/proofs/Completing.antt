@@ -1,15 +1,20 @@
 -- One outcome at most, and what follows for a whole run.
 use Rattle.std.proofs.Common.{◌≡◌, ◌⊎◌, ℕ, List, [], ◌∷◌, refl, sym, ◌∙◌, ap, subst, Option, Result, Ok, Err, None, Some, inl, inr}
 use Rattle.std.specs.Prelude.{MatchOption, ◌↔◌}
+use Rattle.definitions.specs.Hierarchies.{TreesValue}
+use Rattle.definitions.specs.Sets.{FamilyValue}
+use Rattle.definitions.specs.Values.{ProblemValue}
 use Rattle.device_core.specs.Counts.{Rose}
 use Rattle.alloc_cli.specs.declared.causes.Cause.{Cause}
 use Rattle.alloc_cli.specs.declared.causes.Cause.TheVariants as causes
 use Rattle.alloc_cli.specs.declared.words.Command.{Command}
 use Rattle.alloc_cli.specs.declared.words.Command.TheVariants as commands
 use Rattle.alloc_cli.specs.Words.{command_of, file_count}
-use Rattle.alloc_cli.specs.Answers.{Answer, refuse, text, Then, Follows, Gives, LotteryReads, lottery_cause, ticket_within, PickedAnswers, PickAnswers}
+use Rattle.alloc_cli.specs.Answers.{Answer, refuse, text, Then, Follows, Gives, LotteryReads, lottery_cause, ticket_within, PickedAnswers, PickAnswers, ProblemTextReads, input_cause, CrossesOrTrees, crossing_cause, StatedAnswers, SetsAnswers}
 use Rattle.alloc_cli.specs.Picks.{picked_text}
-use Rattle.alloc_cli.proofs.Readings.{one_lottery}
+use Rattle.alloc_cli.specs.StatedSets.{sets_text}
+use Rattle.alloc_cli.proofs.Crossings.{one_crossing, crossing_without_trees}
+use Rattle.alloc_cli.proofs.Readings.{one_lottery, one_problem}
 use Rattle.alloc_cli.specs.Outcomes.{within, Answers, Outcome, RefusesAlone}
 use Rattle.alloc_cli.specs.Runs.{Ends, IsGiven, IsUnread, FilesCount, OutCount, names_of}
 use Rattle.alloc_cli.specs.Top.{Ran, Unread, Read, Refusal}
@@ -39,10 +44,32 @@ pick_alone ticket bytes =
     gives_alone lottery_cause (LotteryReads bytes) (PickedAnswers ticket) (one_lottery bytes) (λ l.
     then_alone (ticket_within ticket l.shares.denominator) (λ t answer. answer ≡ text (picked_text l t)) (λ t. text_alone (picked_text l t)))
 
+-- a family that refuses has no trees, and one pair of sets
+crosses_alone : (f : FamilyValue) (rest : TreesValue → List ℕ) (due : Cause) (answer : Answer) (found other : Result TreesValue (ℕ × ℕ))
+    → CrossesOrTrees f found → Follows crossing_cause (λ t a. a ≡ text (rest t)) found (refuse due)
+    → CrossesOrTrees f other → Follows crossing_cause (λ t a. a ≡ text (rest t)) other answer
+    → answer ≡ refuse due
+crosses_alone f rest due answer (Ok t) other h e k d = cc
+crosses_alone f rest due answer (Err pair) (Ok t) h e k d = absurd (crossing_without_trees f pair.0 pair.1 t h k)
+crosses_alone f rest due answer (Err pair) (Err twin) h e k d =
+    let same = one_crossing f twin.0 twin.1 pair.0 pair.1 k h in
+    d ∙ ap (λ (s : ℕ). refuse (causes.Crossing s twin.1)) same.0 ∙ ap (λ (s : ℕ). refuse (causes.Crossing pair.0 s)) same.1 ∙ sym e
+
+stated_alone : (p : ProblemValue) → RefusesAlone (StatedAnswers p)
+stated_alone p due answer h k = crosses_alone p.family (sets_text p) due answer h.found k.found h.holds h.follows k.holds k.follows
+
+-- what both texts read as decides, and then the least pair of sets that cross
+sets_alone : (prefs quotas : List ℕ) → RefusesAlone (SetsAnswers prefs quotas)
+sets_alone prefs quotas = gives_alone input_cause (ProblemTextReads prefs quotas) StatedAnswers (one_problem prefs quotas) stated_alone
+
 answers_alone : (command : Command) (given : List (List ℕ)) → RefusesAlone (Answers command given)
 answers_alone (commands.Pick ticket) [] due answer h k = absurd h
 answers_alone (commands.Pick ticket) (bytes ∷ []) due answer h k = pick_alone ticket bytes due answer h k
 answers_alone (commands.Pick ticket) (bytes ∷ next ∷ more) due answer h k = absurd h
+answers_alone commands.Sets [] due answer h k = absurd h
+answers_alone commands.Sets (prefs ∷ []) due answer h k = absurd h
+answers_alone commands.Sets (prefs ∷ quotas ∷ []) due answer h k = sets_alone prefs quotas due answer h k
+answers_alone commands.Sets (prefs ∷ quotas ∷ next ∷ more) due answer h k = absurd h
 
 pub outcome_alone : (command : Command) (given : List (List ℕ)) → RefusesAlone (Outcome command given)
 outcome_alone command given = then_alone (within given) (Answers command) (answers_alone command)

@@ -1,6 +1,8 @@
 pub mod Telling
 pub mod Readings
+pub mod Crossings
 pub mod Picking
+pub mod Listing
 pub mod Stepping
 pub mod Ending
 pub mod Completing

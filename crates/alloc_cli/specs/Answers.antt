@@ -1,9 +1,16 @@
 -- Answers of a command, and how those of its steps make its own.
 use Rattle.std.specs.Prelude.{◌≡◌, ℕ, List, Result, Ok, Err, if◌then◌else◌, nat_lt}
+use Rattle.alloc_input.specs.Problems.{ProblemReads, ProblemHasFault}
+use Rattle.alloc_input.specs.declared.faults.InputFault.{InputFault}
+use Rattle.bihierarchy.specs.Crossing.{IsLeastCrossing}
+use Rattle.definitions.specs.Hierarchies.{TreesValue, AreTreesOf}
 use Rattle.definitions.specs.Lotteries.{LotteryValue}
+use Rattle.definitions.specs.Sets.{FamilyValue}
+use Rattle.definitions.specs.Values.{ProblemValue}
 use Rattle.lottery_file.specs.Lotteries.{TextReadsAs, TextHasFault}
 use Rattle.lottery_file.specs.declared.faults.LotteryFault.{LotteryFault}
 use Rattle.alloc_cli.specs.Picks.{picked_text}
+use Rattle.alloc_cli.specs.StatedSets.{sets_text}
 use Rattle.alloc_cli.specs.declared.causes.Cause.{Cause}
 use Rattle.alloc_cli.specs.declared.causes.Cause.TheVariants as causes
 
@@ -48,3 +55,29 @@ PickedAnswers ticket l = Then (ticket_within ticket l.shares.denominator) (λ t 
 -- `pick LOTTERY TICKET`
 abbrev pub PickAnswers : ℕ → List ℕ → Answer → Type 0
 PickAnswers ticket bytes = Gives lottery_cause (LotteryReads bytes) (PickedAnswers ticket)
+
+-- two texts read as a problem, or they have this first fault
+abbrev pub ProblemTextReads : List ℕ → List ℕ → Result ProblemValue InputFault → Type 0
+ProblemTextReads prefs quotas (Ok p) = ProblemReads prefs quotas p
+ProblemTextReads prefs quotas (Err fault) = ProblemHasFault prefs quotas fault.file fault.record_no fault.kind
+
+-- the cause of that fault
+abbrev pub input_cause : InputFault → Cause
+input_cause fault = causes.Input fault
+
+-- a family has these trees, or this is its least pair of sets that cross
+abbrev pub CrossesOrTrees : FamilyValue → Result TreesValue (ℕ × ℕ) → Type 0
+CrossesOrTrees f (Ok t) = AreTreesOf f t
+CrossesOrTrees f (Err pair) = IsLeastCrossing f pair.0 pair.1
+
+-- the cause of that pair
+abbrev pub crossing_cause : ℕ × ℕ → Cause
+crossing_cause pair = causes.Crossing pair.0 pair.1
+
+-- the text of the stated sets, where no two sets of one side cross
+abbrev pub StatedAnswers : ProblemValue → Answer → Type 0
+StatedAnswers p = Gives crossing_cause (CrossesOrTrees p.family) (λ t answer. answer ≡ text (sets_text p t))
+
+-- `sets PREFS QUOTAS`
+abbrev pub SetsAnswers : List ℕ → List ℕ → Answer → Type 0
+SetsAnswers prefs quotas = Gives input_cause (ProblemTextReads prefs quotas) StatedAnswers

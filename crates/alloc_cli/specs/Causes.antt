@@ -4,11 +4,12 @@ use Rattle.std.specs.Fmt.{signed_decimal}
 use Rattle.std.specs.List.{flat_map}
 use Rattle.device_core.specs.declared.faults.SinkFault.{SinkFault}
 use Rattle.device_core.specs.declared.faults.SinkFault.TheVariants as sink
+use Rattle.alloc_input.specs.Kinds.{kind_number as input_kind_number}
 use Rattle.lottery_file.specs.Kinds.{kind_number}
 use Rattle.alloc_cli.specs.declared.causes.Cause.{Cause}
 use Rattle.alloc_cli.specs.declared.causes.Cause.TheVariants as causes
 use Rattle.alloc_cli.specs.declared.faults.Fault.{Fault}
-use Rattle.alloc_cli.specs.Faults.{fault_number, fault_fields, input_kind_number}
+use Rattle.alloc_cli.specs.Faults.{fault_number, fault_fields}
 
 -- the exit status of a cause
 abbrev pub status_of : Cause → ℕ

@@ -1,9 +1,7 @@
--- Numbers of faults and kinds, and the fields of a fault.
+-- Numbers of faults, and the fields of a fault.
 use Rattle.std.specs.Prelude.{ℕ, ℤ, pos, List, [], ◌∷◌}
 use Rattle.alloc_cli.specs.declared.faults.Fault.{Fault}
 use Rattle.alloc_cli.specs.declared.faults.Fault.TheVariants as faults
-use Rattle.alloc_cli.specs.declared.faults.InputKind.{InputKind}
-use Rattle.alloc_cli.specs.declared.faults.InputKind.TheVariants as kinds
 
 -- the number of a check, in the order in which the checks run
 abbrev pub fault_number : Fault → ℕ
@@ -44,25 +42,3 @@ fault_fields (faults.CellNotRounded piece agent column count) = pos piece ∷ po
 fault_fields (faults.SetNotRounded piece set sum) = pos piece ∷ pos set ∷ pos sum ∷ []
 fault_fields (faults.SamePieces first second) = pos first ∷ pos second ∷ []
 fault_fields (faults.CellNotMet agent column given due) = pos agent ∷ pos column ∷ pos given ∷ pos due ∷ []
-
--- the number of a kind
-abbrev pub input_kind_number : InputKind → ℕ
-input_kind_number kinds.NotUtf8 = 1
-input_kind_number kinds.BadName = 2
-input_kind_number kinds.NoHeader = 3
-input_kind_number kinds.RepeatedAgent = 4
-input_kind_number kinds.UnknownObject = 5
-input_kind_number kinds.RepeatedChoice = 6
-input_kind_number kinds.NullNotLast = 7
-input_kind_number kinds.UnknownKind = 8
-input_kind_number kinds.WrongLength = 9
-input_kind_number kinds.BadNumber = 10
-input_kind_number kinds.RepeatedName = 11
-input_kind_number kinds.UnknownName = 12
-input_kind_number kinds.NoneInSet = 13
-input_kind_number kinds.FloorInSolve = 14
-input_kind_number kinds.SideInSolve = 15
-input_kind_number kinds.FloorAboveCeiling = 16
-input_kind_number kinds.OverLimit = 17
-input_kind_number kinds.NoAgents = 18
-input_kind_number kinds.RowInSolve = 19

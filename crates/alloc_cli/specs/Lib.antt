@@ -3,6 +3,7 @@ pub mod Causes
 pub mod Parts
 pub mod Words
 pub mod Picks
+pub mod StatedSets
 pub mod Answers
 pub mod Outcomes
 pub mod Runs

@@ -5,7 +5,7 @@ use Rattle.alloc_cli.specs.declared.causes.Cause.{Cause}
 use Rattle.alloc_cli.specs.declared.causes.Cause.TheVariants as causes
 use Rattle.alloc_cli.specs.declared.words.Command.{Command}
 use Rattle.alloc_cli.specs.declared.words.Command.TheVariants as commands
-use Rattle.alloc_cli.specs.Answers.{Answer, refuse, Then, PickAnswers}
+use Rattle.alloc_cli.specs.Answers.{Answer, refuse, Then, PickAnswers, SetsAnswers}
 
 -- the most bytes of a file
 abbrev pub limit : ℕ
@@ -24,6 +24,8 @@ within given = option_map_or (λ file. Err (causes.TooLong file)) (too_long_from
 abbrev pub Answers : Command → List (List ℕ) → Answer → Type 0
 Answers (commands.Pick ticket) (bytes ∷ []) answer = PickAnswers ticket bytes answer
 Answers (commands.Pick ticket) given answer = ⊥
+Answers commands.Sets (prefs ∷ quotas ∷ []) answer = SetsAnswers prefs quotas answer
+Answers commands.Sets given answer = ⊥
 
 -- what a command answers
 abbrev pub Outcome : Command → List (List ℕ) → Answer → Type 0

@@ -41,6 +41,7 @@ fn step<K: Sink>(
 {
     match command {
         Command::Pick { ticket } => steps::pick(alloc, &given[0], ticket, out),
+        Command::Sets => steps::sets(alloc, &given[0], &given[1], out),
     }
 }
 

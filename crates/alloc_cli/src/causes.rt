@@ -2,7 +2,8 @@
 ghost use Rattle.std.specs.Prelude.{◌≡◌};
 ghost use Rattle.alloc_cli.specs.Causes.{status_of, cause_result};
 
-use crate::faults::{Fault, InputFault};
+use crate::faults::Fault;
+use alloc_input::InputFault;
 use device_core::SinkFault;
 use lottery_file::LotteryFault;
 

@@ -1,6 +1,6 @@
-// Faults that the checkers and the readers of preferences, matrices and quotas find.
+// Faults that the checkers find.
 ghost use Rattle.std.specs.Prelude.{◌≡◌};
-ghost use Rattle.alloc_cli.specs.Faults.{fault_number, input_kind_number};
+ghost use Rattle.alloc_cli.specs.Faults.{fault_number};
 
 /// The first failed check of an audit. Agents, columns, places on a list, sets and pieces count
 /// from 1, and sums are in units of the denominator.
@@ -113,65 +113,4 @@ impl Fault {
             Fault::CellNotMet { .. } => 17,
         }
     }
-}
-
-/// What is unlawful about a record of preferences, of a matrix or of quotas.
-#[derive(Clone, Copy, Debug, PartialEq, Eq)]
-pub enum InputKind {
-    NotUtf8,
-    BadName,
-    NoHeader,
-    RepeatedAgent,
-    UnknownObject,
-    RepeatedChoice,
-    NullNotLast,
-    UnknownKind,
-    WrongLength,
-    BadNumber,
-    RepeatedName,
-    UnknownName,
-    NoneInSet,
-    FloorInSolve,
-    SideInSolve,
-    FloorAboveCeiling,
-    OverLimit,
-    NoAgents,
-    RowInSolve,
-}
-
-impl InputKind {
-    /// The number of the kind.
-    pub fn number(self) -> u8
-        ensures { result ≡ input_kind_number self }
-    {
-        match self {
-            InputKind::NotUtf8 => 1,
-            InputKind::BadName => 2,
-            InputKind::NoHeader => 3,
-            InputKind::RepeatedAgent => 4,
-            InputKind::UnknownObject => 5,
-            InputKind::RepeatedChoice => 6,
-            InputKind::NullNotLast => 7,
-            InputKind::UnknownKind => 8,
-            InputKind::WrongLength => 9,
-            InputKind::BadNumber => 10,
-            InputKind::RepeatedName => 11,
-            InputKind::UnknownName => 12,
-            InputKind::NoneInSet => 13,
-            InputKind::FloorInSolve => 14,
-            InputKind::SideInSolve => 15,
-            InputKind::FloorAboveCeiling => 16,
-            InputKind::OverLimit => 17,
-            InputKind::NoAgents => 18,
-            InputKind::RowInSolve => 19,
-        }
-    }
-}
-
-/// The first unlawful record of a command's files, by its file and its place there from 1.
-#[derive(Clone, Copy, Debug, PartialEq, Eq)]
-pub struct InputFault {
-    pub file: u8,
-    pub record_no: u64,
-    pub kind: InputKind,
 }

@@ -9,6 +9,8 @@ mod lines;
 mod load;
 mod parts;
 mod picks;
+mod rows;
+mod sets;
 mod steps;
 #[cfg(test)]
 mod tests;
@@ -16,5 +18,5 @@ mod top;
 mod words;
 
 pub use causes::{Cause, Ended};
-pub use faults::{Fault, InputFault, InputKind};
+pub use faults::Fault;
 pub use top::{one_answer, run};

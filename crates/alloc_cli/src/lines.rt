@@ -5,9 +5,10 @@ ghost use Rattle.device_core.specs.Counts.{WriteCounts};
 ghost use Rattle.alloc_cli.specs.Causes.{fields_text, line_of};
 
 use crate::causes::Cause;
-use crate::faults::{Fault, InputFault};
+use crate::faults::Fault;
 use crate::parts::Part::{I64, Text, U8, U32, U64, U128};
 use crate::parts::{write_parts, write_spaced};
+use alloc_input::InputFault;
 use device_core::{Sink, SinkFault};
 use lottery_file::LotteryFault;
 

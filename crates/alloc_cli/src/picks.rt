@@ -7,20 +7,12 @@ ghost use Rattle.lottery_file.specs.Written.{give_row};
 ghost use Rattle.table_text.specs.Rows.{rows_text};
 ghost use Rattle.alloc_cli.specs.Picks.{picked_text, ticket_rows};
 
+use crate::rows::{push_number, put_end};
 use lottery_file::Lottery;
 use quota_sets::{Give, Names, Piece};
 use seed_draw::piece_in;
 use std::alloc::Global;
-use table_text::{NoMemory, Row, digits, row_bytes};
-
-// Adds the text of a number as the last field.
-fn push_number(row: &mut Row, number: u128) -> Result<(), NoMemory>
-    ensures { OnOk result (row.new ≡ row.old ++ decimal number ∷ []) }
-{
-    let mut text = [0u8; 39];
-    let length = digits(number, &mut text);
-    row.push(&text[..length])
-}
+use table_text::{NoMemory, Row, row_bytes};
 
 // A record of a word and two numbers.
 fn row_of_two(alloc: Global, word: &[u8], first: u128, second: u128) -> Result<Row, NoMemory>
@@ -30,16 +22,6 @@ fn row_of_two(alloc: Global, word: &[u8], first: u128, second: u128) -> Result<R
     row.push(word)?;
     push_number(&mut row, first)?;
     push_number(&mut row, second)?;
-    Ok(row)
-}
-
-// The record after the last give.
-fn end_row(alloc: Global, gives: u128) -> Result<Row, NoMemory>
-    ensures { IfOk result (λ row. row ≡ codes "end" ∷ decimal gives ∷ []) }
-{
-    let mut row = Row::new(alloc);
-    row.push(b"end")?;
-    push_number(&mut row, gives)?;
     Ok(row)
 }
 
@@ -76,14 +58,6 @@ fn put_two(
     ensures { OnOk result (into.new.items ≡ into.old.items ++ rows_text ((word.now ∷ decimal first ∷ decimal second ∷ []) ∷ [])) }
 {
     let row = row_of_two(alloc, word, first, second)?;
-    row_bytes(alloc, &row, into)
-}
-
-// Appends the record after the last give.
-fn put_end(alloc: Global, gives: u128, into: &mut Vec<u8>) -> Result<(), NoMemory>
-    ensures { OnOk result (into.new.items ≡ into.old.items ++ rows_text ((codes "end" ∷ decimal gives ∷ []) ∷ [])) }
-{
-    let row = end_row(alloc, gives)?;
     row_bytes(alloc, &row, into)
 }
 

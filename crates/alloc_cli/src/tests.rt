@@ -52,6 +52,51 @@ fn one_file(alloc: Global, bytes: &[u8]) -> Result<Vec<(String, Vec<u8>)>, Alloc
     Ok(files)
 }
 
+// Preferences and quotas, of the names that every test uses.
+fn two_files(
+    alloc: Global,
+    prefs: &[u8],
+    quotas: &[u8],
+) -> Result<Vec<(String, Vec<u8>)>, AllocError> {
+    let mut files = Vec::new(alloc);
+    files.push((String::from_str(alloc, "prefs.csv")?, prefs.to_vec(alloc)?))?;
+    files.push((
+        String::from_str(alloc, "quotas.csv")?,
+        quotas.to_vec(alloc)?,
+    ))?;
+    Ok(files)
+}
+
+// `sets` on these files ends with this status, and writes this to each sink.
+fn check_sets(
+    rt: &(impl Abort + AllocGlobal),
+    prefs: &[u8],
+    quotas: &[u8],
+    status: u8,
+    out: &str,
+    err: &str,
+) -> Result<(), AllocError> {
+    let alloc = rt.alloc();
+    let words = words_of(alloc, &["sets", "prefs.csv", "quotas.csv"])?;
+    let mut files = SureFiles::new(two_files(alloc, prefs, quotas)?);
+    let (mut written, mut told) = (SureSink::new(alloc), SureSink::new(alloc));
+    let ended = run(alloc, &words, &mut files, &mut written, &mut told);
+    assert_eq!(rt; ended.status, status, "status, not {out}{err}");
+    assert_eq!(rt; written.bytes(), out.as_bytes(), "out, not {out}");
+    assert_eq!(rt; told.bytes(), err.as_bytes(), "err, not {err}");
+    Ok(())
+}
+
+// `sets` refuses the files with this line.
+fn check_sets_refused(
+    rt: &(impl Abort + AllocGlobal),
+    prefs: &[u8],
+    quotas: &[u8],
+    line: &str,
+) -> Result<(), AllocError> {
+    check_sets(rt, prefs, quotas, 3, "", line)
+}
+
 // A run of these words over one file.
 fn run_on(alloc: Global, words: &[&str], bytes: &[u8]) -> Result<Seen, AllocError> {
     let words = words_of(alloc, words)?;
@@ -309,7 +354,10 @@ fn cause_without_files(alloc: Global, words: &[&str]) -> Result<Cause, AllocErro
 
 #[test]
 fn usage_words(rt: HostRuntime) -> Result<(), Fail> {
-    let forms: [&[&str]; 8] = [
+    let forms: [&[&str]; 11] = [
+        &["sets"],
+        &["sets", "prefs.csv"],
+        &["sets", "prefs.csv", "quotas.csv", "more.csv"],
         &[],
         &["pick"],
         &["pick", "lottery.csv"],
@@ -327,6 +375,16 @@ fn usage_words(rt: HostRuntime) -> Result<(), Fail> {
     Ok(())
 }
 
+// Lawful files for every command.
+fn device_files(alloc: Global) -> Result<Vec<(String, Vec<u8>)>, AllocError> {
+    let mut files = two_files(alloc, b"agent\nx,a\n", b"object,a,,1\n")?;
+    files.push((
+        String::from_str(alloc, "lottery.csv")?,
+        PLAIN.as_bytes().to_vec(alloc)?,
+    ))?;
+    Ok(files)
+}
+
 // Each call of the files fails in turn, until a run ends with Done.
 fn check_failing_loads(
     rt: &(impl Abort + AllocGlobal),
@@ -338,7 +396,7 @@ fn check_failing_loads(
     for call in 0..=loads {
         let mut failing = Vec::new(alloc);
         failing.push(u64::from(call))?;
-        let mut files = MemoryFiles::new(one_file(alloc, PLAIN.as_bytes())?, failing);
+        let mut files = MemoryFiles::new(device_files(alloc)?, failing);
         let (mut out, mut err) = (SureSink::new(alloc), SureSink::new(alloc));
         let ended = run(alloc, &words, &mut files, &mut out, &mut err);
         if call == loads {
@@ -360,7 +418,7 @@ fn run_failing(alloc: Global, words: &[&str], call: u64, kept: usize) -> Result<
     let words = words_of(alloc, words)?;
     let mut failing = Vec::new(alloc);
     failing.push((call, kept))?;
-    let mut files = SureFiles::new(one_file(alloc, PLAIN.as_bytes())?);
+    let mut files = SureFiles::new(device_files(alloc)?);
     let (mut out, mut err) = (MemorySink::new(alloc, failing), SureSink::new(alloc));
     let ended = run(alloc, &words, &mut files, &mut out, &mut err);
     Ok(Seen {
@@ -375,7 +433,7 @@ fn run_failing(alloc: Global, words: &[&str], call: u64, kept: usize) -> Result<
 // call that can fail is the flush, after the whole text.
 fn check_failing_writes(rt: &(impl Abort + AllocGlobal), words: &[&str]) -> Result<(), AllocError> {
     let alloc = rt.alloc();
-    let whole = run_on(alloc, words, PLAIN.as_bytes())?.out;
+    let whole = run_failing(alloc, words, u64::MAX, 0)?.out;
     let mut kept_last = 0usize;
     for call in 0..1000u64 {
         for kept in [0usize, 1, usize::MAX] {
@@ -402,7 +460,10 @@ fn check_failing_writes(rt: &(impl Abort + AllocGlobal), words: &[&str]) -> Resu
 // A row for each command: its words, and how many files it loads.
 #[test]
 fn failing_devices(rt: HostRuntime) -> Result<(), Fail> {
-    let commands: [(&[&str], u8); 1] = [(&["pick", "lottery.csv", "1"], 1)];
+    let commands: [(&[&str], u8); 2] = [
+        (&["pick", "lottery.csv", "1"], 1),
+        (&["sets", "prefs.csv", "quotas.csv"], 2),
+    ];
     for (words, loads) in commands {
         check_failing_loads(&rt, words, loads)?;
         check_failing_writes(&rt, words)?;
@@ -428,6 +489,103 @@ fn failing_err(rt: HostRuntime) -> Result<(), Fail> {
         assert_eq!(rt; ended.cause, due);
         assert_eq!(rt; ended.status, 3);
         assert!(rt; b"ticket: 2 of 2\n".starts_with(err.bytes()), "at {call}");
+    }
+    Ok(())
+}
+
+#[test]
+fn equal_and_empty_sets(rt: HostRuntime) -> Result<(), Fail> {
+    check_sets(
+        &rt,
+        b"agent\nx,a,b\ny,a,b\nz,a\n",
+        b"object,a,,2\nobject,b,,1\ngroup,XY,x,y\nset,G,2,,1\nin,G,XY,a\n\
+set,H,2,,2\nin,H,XY,a\nset,E,2,,0\n",
+        0,
+        "set,1,2,0,2,3,0\nset,2,2,0,1,3,0\nset,3,2,0,1,2,4\nset,4,2,0,2,2,1\nset,5,2,0,0,0,0\nend,5\n",
+        "",
+    )?;
+    Ok(())
+}
+
+#[test]
+fn least_crossing_pair(rt: HostRuntime) -> Result<(), Fail> {
+    check_sets_refused(
+        &rt,
+        b"agent\nx,a\ny,a\nz,a\n",
+        b"object,a,,1\nset,A,2,,1\nset,B,2,,1\nset,C,2,,1\n\
+in,A,x,a\nin,A,y,a\nin,B,y,a\nin,B,z,a\nin,C,x,a\nin,C,z,a\n",
+        "crossing: sets 2 3\n",
+    )?;
+    Ok(())
+}
+
+#[test]
+fn as_a_spreadsheet_writes_it(rt: HostRuntime) -> Result<(), Fail> {
+    let prefs: &[u8] = b"\xef\xbb\xbfagent,first,second,third\r\n\"Lee, Ada\",North,South,\r\n\
+\"O\"\"Dea, Jo\",North,South,none\r\n,,,\r\n";
+    let quotas: &[u8] = b"object,North,,1\r\nobject,South,0,1\r\n";
+    let listed = "set,1,2,0,1,2,0\nset,2,2,0,1,2,0\nend,2\n";
+    check_sets(&rt, prefs, quotas, 0, listed, "")?;
+    let mut more = prefs.to_vec(rt.alloc())?;
+    more.extend_from_slice(b"Kim,East\r\n")?;
+    check_sets_refused(&rt, &more, quotas, "input: file 1 record 5 kind 5\n")?;
+    Ok(())
+}
+
+#[test]
+fn one_case_per_input_fault(rt: HostRuntime) -> Result<(), Fail> {
+    let p: &[u8] = b"agent\nx,a\n";
+    let q: &[u8] = b"object,a,,1\n";
+    let cases: [(&[u8], &[u8], &str); 18] = [
+        (b"agent\n\xff\n", q, "input: file 1 record 2 kind 1\n"),
+        (b"agent\n,a\n", q, "input: file 1 record 2 kind 2\n"),
+        (b"name\nx,a\n", q, "input: file 1 record 1 kind 3\n"),
+        (b"agent\nx,a\nx\n", q, "input: file 1 record 3 kind 4\n"),
+        (b"agent\nx,b\n", q, "input: file 1 record 2 kind 5\n"),
+        (b"agent\nx,a,a\n", q, "input: file 1 record 2 kind 6\n"),
+        (b"agent\nx,none,a\n", q, "input: file 1 record 2 kind 7\n"),
+        (
+            b"agent\nx\n",
+            b"objects,a,,1\n",
+            "input: file 2 record 1 kind 8\n",
+        ),
+        (
+            p,
+            b"object,a,,1\nin,G,x\n",
+            "input: file 2 record 2 kind 9\n",
+        ),
+        (p, b"object,a,,one\n", "input: file 2 record 1 kind 10\n"),
+        (
+            p,
+            b"object,a,,1\nobject,a,,1\n",
+            "input: file 2 record 2 kind 11\n",
+        ),
+        (
+            p,
+            b"object,a,,1\nin,G,x,a\n",
+            "input: file 2 record 2 kind 12\n",
+        ),
+        (
+            p,
+            b"object,a,,1\nobject,none,,1\n",
+            "input: file 2 record 2 kind 13\n",
+        ),
+        (p, b"object,a,1,1\n", "input: file 2 record 1 kind 14\n"),
+        (
+            p,
+            b"object,a,,1\nset,G,1,,1\n",
+            "input: file 2 record 2 kind 15\n",
+        ),
+        (p, b"object,a,,1001\n", "input: file 2 record 1 kind 17\n"),
+        (b"agent\n", q, "input: file 1 record 2 kind 18\n"),
+        (
+            p,
+            b"object,a,,1\nagent,x,,1\n",
+            "input: file 2 record 2 kind 19\n",
+        ),
+    ];
+    for (prefs, quotas, line) in cases {
+        check_sets_refused(&rt, prefs, quotas, line)?;
     }
     Ok(())
 }

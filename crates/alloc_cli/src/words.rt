@@ -9,6 +9,8 @@ use table_text::read_count;
 pub enum Command {
     /// `pick LOTTERY TICKET`
     Pick { ticket: u128 },
+    /// `sets PREFS QUOTAS`
+    Sets,
 }
 
 impl Command {
@@ -18,6 +20,7 @@ impl Command {
     {
         match self {
             Command::Pick { .. } => 1,
+            Command::Sets => 2,
         }
     }
 }
@@ -31,6 +34,7 @@ fn parse_two(name: &str, second: &str) -> Option<Command>
             let ticket = read_count(second.as_bytes())?;
             Some(Command::Pick { ticket })
         }
+        "sets" => Some(Command::Sets),
         _ => None,
     }
 }

@@ -1,0 +1,82 @@
+-- One more record of preferences, and their end.
+use Rattle.std.proofs.Common.{◌≡◌, ◌≢◌, ◌==◌, ◌∙◌, ◌++◌, ◌∷◌, [], ℕ, suc, List, Option, Some, None, Bool, true, false, Result, Ok, Err, refl, sym, ap, subst, length, drop, map, filter}
+use Rattle.std.specs.Prelude.{not, codes}
+use Rattle.std.specs.List.{list_all}
+use Rattle.std.specs.Str.{bytes_eq, is_utf8}
+use Rattle.std.proofs.lemmas.Bool.{ne_eqb}
+use Rattle.std.proofs.lemmas.List.{append-nil, map-append}
+use Rattle.std.proofs.lemmas.List.Elements.{filter-append}
+use Rattle.definitions.specs.Texts.{Row, first_field}
+use Rattle.alloc_input.specs.Checks.{Checks, StopsAt}
+use Rattle.alloc_input.specs.Prefs.{is_blank, filled_rows, has_header, agent_rows, agents_of, lists_of, list_of, check_record, check_agent, check_end}
+use Rattle.alloc_input.specs.PrefsReading.{IsAfter, column_lists}
+use Rattle.alloc_input.specs.declared.faults.InputKind.{InputKind}
+use Rattle.alloc_input.specs.declared.faults.InputKind.TheVariants as kind
+use Rattle.alloc_input.specs.declared.faults.Stop.{Stop}
+use Rattle.alloc_input.specs.declared.prefs.State.{State}
+
+pub filled_rows-blank : (e : List Row) (row : Row) → true ≡ (length row == 0) → filled_rows (e ++ row ∷ []) ≡ filled_rows e
+unfolding filled_rows
+filled_rows-blank e row h = filter-append (λ r. not (is_blank r)) e (row ∷ []) ∙ rw (← h) (append-nil _)
+
+pub filled_rows-more : (e : List Row) (row : Row) → false ≡ (length row == 0) → filled_rows (e ++ row ∷ []) ≡ filled_rows e ++ row ∷ []
+unfolding filled_rows
+filled_rows-more e row h = filter-append (λ r. not (is_blank r)) e (row ∷ []) ∙ rw (← h) refl
+
+pub drop-more : (xs : List Row) (row : Row) → not (length xs == 0) ≡ true → drop 1 (xs ++ row ∷ []) ≡ drop 1 xs ++ row ∷ []
+drop-more [] row h = cc h
+drop-more (x ∷ xs) row h = refl
+
+pub header-first : (xs : List Row) (row : Row) → not (length xs == 0) ≡ false → (drop 1 (xs ++ row ∷ []) ≡ drop 1 xs) × (true ≡ not (length (xs ++ row ∷ []) == 0))
+header-first [] row h = (refl, refl)
+header-first (x ∷ xs) row h = let t = rw (ne_eqb (suc (length xs)) 0 (λ z. cc z)) at h in cc t
+
+header-kept : (xs : List Row) (row : Row) → true ≡ not (length (xs ++ row ∷ []) == 0)
+header-kept [] row = refl
+header-kept (x ∷ xs) row = rw (ne_eqb (suc (length (xs ++ row ∷ []))) 0 (λ z. cc z)) refl
+
+pub after-blank : (o : List (List ℕ)) (e : List Row) (row : Row) (s : State) → true ≡ (length row == 0) → IsAfter o e s
+    → (check_record o e row ≡ None) × IsAfter o (e ++ row ∷ []) s
+unfolding check_record
+after-blank o e row s h a = (rw (← h) refl, (rw (filled_rows-blank e row h) a.0, rw (filled_rows-blank e row h) a.1, rw (filled_rows-blank e row h) a.2))
+
+pub after-header : (o : List (List ℕ)) (e : List Row) (row : Row) (s : State) → false ≡ (length row == 0) → true ≡ list_all is_utf8 row → s.header ≡ false
+    → true ≡ bytes_eq (first_field row) (codes "agent") → IsAfter o e s
+    → (check_record o e row ≡ None) × IsAfter o (e ++ row ∷ []) (record s { header = true })
+unfolding check_record
+after-header o e row s h t n w a =
+    let none = sym a.0 ∙ n in
+    let f = header-first (filled_rows e) row none in
+    (rw (← h, ← t, none, ← w) refl, (rw (filled_rows-more e row h) f.1, rw (filled_rows-more e row h, f.0) a.1, rw (filled_rows-more e row h, f.0) a.2))
+
+pub after-agent : (o : List (List ℕ)) (e : List Row) (row : Row) (s s2 : State) → false ≡ (length row == 0) → s.header ≡ true → s2.header ≡ s.header
+    → s2.agents ≡ s.agents ++ first_field row ∷ [] → column_lists s2.lists ≡ column_lists s.lists ++ list_of o row ∷ [] → IsAfter o e s
+    → IsAfter o (e ++ row ∷ []) s2
+after-agent o e row s s2 h n k p q a =
+    let more = drop-more (filled_rows e) row (sym a.0 ∙ n) in
+    let rows = filled_rows-more e row h in (
+      k ∙ n ∙ rw rows (header-kept (filled_rows e) row),
+      p ∙ rw (rows, more, a.1) (sym (map-append first_field (agent_rows e) (row ∷ []))),
+      q ∙ rw (rows, more, a.2) (sym (map-append (list_of o) (agent_rows e) (row ∷ []))),
+    )
+
+pub checks-weaken : {X : Type 0} (r : Result X Stop) (a b : Option InputKind) (P Q : X → Type 0) → a ≡ b → ((x : X) → P x → Q x) → Checks r a P → Checks r b Q
+checks-weaken (Ok x) a b P Q e f h = (sym e ∙ h.0, f x h.1)
+checks-weaken (Err s) a b P Q e f h = subst (λ k. StopsAt s k) e h
+
+pub agent-check : (o : List (List ℕ)) (e : List Row) (row : Row) (s : State) → false ≡ (length row == 0) → true ≡ list_all is_utf8 row → s.header ≡ true → IsAfter o e s
+    → check_agent o s.agents row ≡ check_record o e row
+unfolding check_record
+agent-check o e row s h t n a = rw (← h, ← t, sym a.0 ∙ n, a.1) refl
+
+pub end-no-header : (o : List (List ℕ)) (rows : List Row) (s : State) → s.header ≡ false → IsAfter o rows s → check_end rows ≡ Some kind.NoHeader
+unfolding check_end
+end-no-header o rows s n a = rw (sym a.0 ∙ n) refl
+
+pub end-no-agents : (o : List (List ℕ)) (rows : List Row) (s : State) → s.header ≡ true → length s.agents ≡ 0 → IsAfter o rows s → check_end rows ≡ Some kind.NoAgents
+unfolding check_end
+end-no-agents o rows s n z a = rw (sym a.0 ∙ n, sym (ap length a.1) ∙ z) refl
+
+pub end-lawful : (o : List (List ℕ)) (rows : List Row) (s : State) → s.header ≡ true → length s.agents ≢ 0 → IsAfter o rows s → check_end rows ≡ None
+unfolding check_end
+end-lawful o rows s n z a = rw (sym a.0 ∙ n, ne_eqb (length (agents_of rows)) 0 (λ e. z (ap length a.1 ∙ e))) refl

@@ -1,0 +1,9 @@
+use Rattle.std.proofs.Common.{◌≡◌, ◌∙◌, ◌||◌, ◌==◌, sym, ap, false}
+use Rattle.alloc_input.specs.Cells.{has_number}
+use Rattle.alloc_input.proofs.NumberFacts.{has-insert, on_ok}
+use Rattle.alloc_input.proofs.numbers.NumberSet.insert.Goals as goal
+
+pub returns : goal.returns
+returns c = λ j.
+    let keys = on_ok _ c.insert.result (sym c.is_err.ensures.value ∙ c.if-is_err.false) c.insert.ensures.keys in
+    ap (λ xs. has_number xs j) keys ∙ has-insert c.self.inside.set.keys c.args.number j ∙ ap (λ xs. has_number xs j || (c.args.number == j)) c.self.view_is

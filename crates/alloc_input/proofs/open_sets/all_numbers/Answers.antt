@@ -1,0 +1,13 @@
+use Rattle.std.proofs.Common.{◌≡◌, ◌∙◌, sym, rules, true, arith, ◌≤◌}
+use Rattle.std.specs.Result.{is_ok}
+use Rattle.alloc_input.proofs.Ranges.{range_more}
+use Rattle.alloc_input.proofs.open_sets.all_numbers.Goals as goal
+
+pub loop-i-preserved : goal.loop-i-preserved
+loop-i-preserved c =
+    let good : is_ok c.push.result ≡ true = search rules in
+    let items = rw good at c.push.ensures.items in
+    items ∙ rw c.loop-i.invariant (sym (range_more 0 c.loop-i.i c.loop-i.i (omega arith)))
+
+pub returns : goal.returns
+returns c = let e : c.loop-i.i ≡ c.args.n = omega arith in rw e at c.loop-i.invariant

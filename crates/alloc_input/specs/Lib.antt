@@ -1,0 +1,11 @@
+pub mod Cells
+pub mod Checks
+pub mod Kinds
+pub mod Numbers
+pub mod Objects
+pub mod Prefs
+pub mod PrefsReading
+pub mod Problems
+pub mod Quotas
+pub mod Reading
+pub mod Stated

@@ -1,0 +1,30 @@
+//! Preferences, quotas and matrices as text, with the exact first fault of a text that is unlawful.
+#![tactic(auto)]
+
+mod closing;
+mod declared;
+mod faults;
+mod fields;
+mod laws;
+mod marks;
+mod mode;
+mod numbers;
+mod open_sets;
+mod prefs;
+mod problem;
+mod quota_reading;
+mod quota_records;
+mod quota_state;
+#[cfg(test)]
+mod quota_tests;
+mod quotas;
+mod stated;
+#[cfg(test)]
+mod tests;
+mod words;
+
+pub use faults::{InputFault, InputKind, InputRefusal};
+pub use laws::lawful_quotas_suit;
+pub use mode::Mode;
+pub use problem::read_problem;
+pub use quotas::{read_demands, read_quotas};

@@ -1,0 +1,71 @@
+ghost use Rattle.std.specs.Prelude.{◌≡◌, ◌≤◌, ◌+◌, ◌^◌, IfErr, IfOk, length, true};
+ghost use Rattle.alloc_input.specs.Stated.{is_solve, setting_of};
+ghost use Rattle.alloc_input.specs.Quotas.{IsReadFor, QuotasRefusedFor, TextReadsAsDemands, TextReadsAsFamily};
+
+use crate::closing::{close_family, column_count};
+use crate::faults::InputRefusal;
+use crate::mode::Mode;
+use crate::quota_reading::{demands_of, read_quota_records};
+use quota_sets::{Family, Names};
+use std::alloc::Global;
+use table_text::records;
+
+/// Reads the sets that quotas state, the second file, over agents and objects without `none`.
+///
+/// For `solve` the objects are those that the text declares, and the family has one more column, that of `none`. For
+/// `decompose` there are at most 200. `Fault` is the first unlawful record of the text with the first of its checks
+/// that fails. `NoMemory` can come at any text.
+pub fn read_quotas(
+    alloc: Global,
+    bytes: &[u8],
+    agents: &Names,
+    objects: &Names,
+    mode: Mode,
+) -> Result<Family, InputRefusal>
+    requires size { length bytes.now ≤ 2 ^ 26 }
+    requires suits { IsReadFor mode bytes.now agents.now objects.now }
+    ensures value { IfOk result (TextReadsAsFamily (setting_of agents.now objects.now (is_solve mode)) bytes.now) }
+    ensures fault { IfErr result (QuotasRefusedFor (setting_of agents.now objects.now (is_solve mode)) bytes.now) }
+{
+    let Ok(rows) = records(alloc, bytes) else {
+        return Err(InputRefusal::NoMemory);
+    };
+    let state = match read_quota_records(alloc, &rows, agents, objects, mode) {
+        Ok(state) => state,
+        Err(refusal) => return Err(refusal),
+    };
+    let columns = column_count(objects.len(), mode.is_solve());
+    match close_family(
+        alloc,
+        state.sets.as_slice(),
+        agents.len(),
+        objects.len(),
+        columns,
+    ) {
+        Ok(family) => Ok(family),
+        Err(_) => Err(InputRefusal::NoMemory),
+    }
+}
+
+/// Reads the demands that quotas state for `solve`: that of each agent, in order, and 1 where none is stated.
+///
+/// The conditions and faults are those of `read_quotas` for `solve`.
+pub fn read_demands(
+    alloc: Global,
+    quotas: &[u8],
+    agents: &Names,
+    objects: &Names,
+) -> Result<Vec<u32>, InputRefusal>
+    requires size { length quotas.now ≤ 2 ^ 26 }
+    requires suits { IsReadFor Mode.Solve quotas.now agents.now objects.now }
+    ensures value { IfOk result (λ demands. TextReadsAsDemands (setting_of agents.now objects.now true) quotas.now demands.items) }
+    ensures fault { IfErr result (QuotasRefusedFor (setting_of agents.now objects.now true) quotas.now) }
+{
+    let Ok(rows) = records(alloc, quotas) else {
+        return Err(InputRefusal::NoMemory);
+    };
+    match read_quota_records(alloc, &rows, agents, objects, Mode::Solve) {
+        Ok(state) => Ok(demands_of(state)),
+        Err(refusal) => Err(refusal),
+    }
+}

@@ -589,3 +589,39 @@ fn one_case_per_input_fault(rt: HostRuntime) -> Result<(), Fail> {
     }
     Ok(())
 }
+
+// So many lines, each with a number between these texts.
+fn numbered_lines(
+    alloc: Global,
+    before: &str,
+    after: &str,
+    count: u32,
+) -> Result<Vec<u8>, AllocError> {
+    let mut text = Vec::new(alloc);
+    for number in 0..count {
+        let line = format!(in alloc; "{before}{number}{after}\n")?;
+        text.extend_from_slice(line.as_bytes())?;
+    }
+    Ok(text)
+}
+
+#[test]
+fn limits_of_inputs(rt: HostRuntime) -> Result<(), Fail> {
+    let alloc = rt.alloc();
+    let agent: &[u8] = b"agent\nx\n";
+    let objects = numbered_lines(alloc, "object,o", ",,1", 201)?;
+    check_sets_refused(&rt, agent, &objects, "input: file 2 record 201 kind 17\n")?;
+    let mut sets = b"object,a,,1\n".to_vec(alloc)?;
+    sets.extend_from_slice(&numbered_lines(alloc, "set,S", ",2", 1000)?)?;
+    check_sets_refused(&rt, agent, &sets, "input: file 2 record 1001 kind 17\n")?;
+    let mut agents = b"agent\n".to_vec(alloc)?;
+    agents.extend_from_slice(&numbered_lines(alloc, "p", "", 1000)?)?;
+    let mut cells = numbered_lines(alloc, "object,o", ",,1", 200)?;
+    cells.extend_from_slice(&numbered_lines(alloc, "set,S", ",2", 5)?)?;
+    cells.extend_from_slice(&numbered_lines(alloc, "in,S", ",*,*", 4)?)?;
+    cells.extend_from_slice(b"in,S4,p0,o0\n")?;
+    check_sets_refused(&rt, &agents, &cells, "input: file 2 record 210 kind 17\n")?;
+    agents.extend_from_slice(b"one_more\n")?;
+    check_sets_refused(&rt, &agents, &cells, "input: file 1 record 1002 kind 17\n")?;
+    Ok(())
+}

@@ -14,6 +14,7 @@ use Rattle.std.proofs.Math.Nat.{dvd-sub}
 use Prim.Native.Nat.{◌∣◌}
 use Rattle.definitions.specs.declared.Cell.{Cell}
 use Rattle.definitions.proofs.Members.{distinct_none, distinct_more}
+use Rattle.definitions.proofs.Families.{no_set}
 use Rattle.definitions.specs.declared.Give.{Give}
 use Rattle.definitions.specs.Sets.{IsBefore, IsQuotaSet, IsFamily, IsInRange, IsCellWithin, cells_in, cell_of, crosses, cells_at, cells_of, sides_of, NoCrossing, set_sum, SetValue, unit_at, FamilyValue, ScaledValue, IsSet, set_cells, set_size, set_side, is_subset, holds}
 use Rattle.definitions.specs.Hierarchies.{IsLower, IsAbove, IsParent, HasNoParent, IsHolder, IsDeepest, TreesValue, AreTreesOf, parent_at, deepest_at}
@@ -129,9 +130,6 @@ falls_from_by_test before (w ∷ ws) e = let parts = and_parts (int_lt w before)
 falls_by_test : (ws : List ℤ) → falls ws ≡ true → Falls ws
 falls_by_test [] e = tt
 falls_by_test (w ∷ ws) e = falls_from_by_test w ws e
-
-abbrev no_set : SetValue
-no_set = record { side = 0; floor = 0; ceiling = 0; cells = [] }
 
 -- the price of a set that isn't full
 abbrev pub is_priced_well : ProblemValue → ℕ → (Cell → ℕ) → PricesValue → ℕ → Bool

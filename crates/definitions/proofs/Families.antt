@@ -1,9 +1,10 @@
 -- Families and problems: sets by their numbers, and the two sides of a bihierarchy.
-use Rattle.std.proofs.Common.{◌≡◌, ℕ, ◌+◌, ◌-◌, ◌<◌, ◌⊎◌, ◌∙◌, List, [], length, map, get_or, sym, ap, inl, inr, arith, All, length-drop}
-use Rattle.std.specs.Prelude.{slice_index}
+use Rattle.std.proofs.Common.{◌≡◌, ℕ, ◌+◌, ◌-◌, ◌⊎◌, ◌∙◌, [], length, get_or, sym, ap, inl, inr, arith, All, length-drop}
 use Rattle.std.specs.List.{enumerate_from}
-use Rattle.definitions.specs.Sets.{SetValue, FamilyValue, IsQuotaSet, cells_of, IsNumberOf, IsSet, set_side, IsHierarchy, IsBihierarchy, row_cells}
+use Rattle.definitions.specs.Sets.{SetValue, FamilyValue, IsQuotaSet, cells_of, IsNumberOf, IsSet, set_cells, set_side, IsHierarchy, IsBihierarchy, row_cells}
+use Rattle.definitions.specs.Hierarchies.{IsLower}
 use Rattle.definitions.specs.Values.{ProblemValue, IsProblem, row_sets, column_count}
+use Rattle.std.proofs.lemmas.Option.{unwrap_or-slice_get}
 use Rattle.std.proofs.lemmas.List.{get_or-map, length-map}
 use Rattle.std.proofs.lemmas.List.FromFn.{length-enumerate_from}
 
@@ -14,6 +15,25 @@ number_of_set f s h = (h.0, omega (arith, h.1, length-map f.sets (λ (q : SetVal
 pub set_of_number : (f : FamilyValue) (s : ℕ) → IsNumberOf (cells_of f) s → IsSet f s
 set_of_number f s h = (h.0, omega (arith, h.1, length-map f.sets (λ (q : SetValue). q.cells)))
 
+-- what stands for a set where there is none
+abbrev pub no_set : SetValue
+no_set = record { side = 1; floor = 0; ceiling = 0; cells = [] }
+
+-- the cells of a set are those of the set at its index
+pub cells_of_set : (f : FamilyValue) (s : ℕ) → IsSet f s → (d : SetValue) → set_cells f s ≡ (get_or f.sets (s - 1) d).cells
+cells_of_set f s known d = unwrap_or-slice_get (cells_of f) (s - 1) [] ∙ get_or-map (λ (q : SetValue). q.cells) f.sets (s - 1) d [] (omega (arith, known.0, known.1))
+
+-- and so is its side
+pub side_of_set : (f : FamilyValue) (s : ℕ) → IsSet f s → (d : SetValue) → set_side f s ≡ (get_or f.sets (s - 1) d).side
+side_of_set f s known d = get_or-map (λ (q : SetValue). q.side) f.sets (s - 1) d 0 (omega (arith, known.0, known.1))
+
+-- the order by size and then number is transitive
+pub lower_through : (f : FamilyValue) (s t u : ℕ) → IsLower f s t → IsLower f t u → IsLower f s u
+lower_through f s t u (inl l) (inl m) = inl (omega (arith, l, m))
+lower_through f s t u (inl l) (inr m) = inl (omega (arith, l, m.0))
+lower_through f s t u (inr l) (inl m) = inl (omega (arith, l.0, m))
+lower_through f s t u (inr l) (inr m) = inr (l.0 ∙ m.0, omega (arith, l.1, m.1))
+
 -- each side of a bihierarchy is a hierarchy
 pub side_of_bihierarchy : (f : FamilyValue) (side : ℕ) → IsBihierarchy f → IsHierarchy f side
 side_of_bihierarchy f side apart s t known knows first second cross = apart s t (number_of_set f s known) (number_of_set f t knows) (first ∙ sym second) cross
@@ -21,15 +41,11 @@ side_of_bihierarchy f side apart s t known knows first second cross = apart s t 
 -- the side of a lawful set is 1 or 2
 pub known_side : (f : FamilyValue) (s : ℕ) → All IsQuotaSet f.sets → IsSet f s → (set_side f s ≡ 1) ⊎ (set_side f s ≡ 2)
 known_side f s lawful known =
-    let d : SetValue = record { side = 1; floor = 0; ceiling = 0; cells = [] } in
-    let at : set_side f s ≡ (get_or f.sets (s - 1) d).side = side_at f.sets (s - 1) (omega (arith, known.0, known.1)) in
-    elim ((lawful (s - 1) d (omega (arith, known.0, known.1))).side) [
+    let at : set_side f s ≡ (get_or f.sets (s - 1) no_set).side = side_of_set f s known no_set in
+    elim ((lawful (s - 1) no_set (omega (arith, known.0, known.1))).side) [
       | inl one ↦ inl (at ∙ one)
       | inr two ↦ inr (at ∙ two)
     ]
-  where
-    side_at : (sets : List SetValue) (k : ℕ) → k < length sets → slice_index (map (λ q. q.side) sets) k ≡ (get_or sets k (record { side = 1; floor = 0; ceiling = 0; cells = [] })).side
-    side_at sets k l = get_or-map (λ (q : SetValue). q.side) sets k (record { side = 1; floor = 0; ceiling = 0; cells = [] }) 0 l
 
 -- two hierarchies are a bihierarchy
 pub bihierarchy_of_sides : (f : FamilyValue) → All IsQuotaSet f.sets → IsHierarchy f 1 → IsHierarchy f 2 → IsBihierarchy f

@@ -7,7 +7,8 @@ use Rattle.std.proofs.lemmas.List.{map-append, take_all, drop-drop}
 use Rattle.std.proofs.lemmas.Bool.{cases_order}
 use Rattle.std.proofs.lemmas.Nat.{mul-le, div_below}
 use Rattle.std.proofs.lemmas.List.Sums.{sum_by-cons}
-use Rattle.std.proofs.lemmas.List.Elements.{All-map, All-nil}
+use Rattle.std.proofs.lemmas.List.Elements.{All-map, All-nil, All-cons}
+use Rattle.std.proofs.lemmas.List.Kept.{AllPairs-cons}
 use Rattle.definitions.specs.declared.Cell.{Cell}
 use Rattle.definitions.specs.declared.Give.{Give}
 use Rattle.definitions.specs.Sets.{cell_of, cell_index, same_cell, row_cells, IsBefore}
@@ -89,15 +90,6 @@ matrix_back agents columns m h =
 -- a lawful give that stands at this index or after it
 abbrev Stands : ℕ → ℕ → ℕ → Give → Type 0
 Stands agents columns at g = (at ≤ g.agent * columns + g.object) × ((g.agent < agents) × (g.object < columns) × (1 ≤ g.count) × (g.count ≤ 1000))
-
-All-cons : {X : Type 0} (P : X → Type 0) (x : X) (xs : List X) → P x → All P xs → All P (x ∷ xs)
-All-cons P x xs p ps zero d l = p
-All-cons P x xs p ps (suc k) d l = ps k d (omega (arith, l))
-
-AllPairs-cons : {X : Type 0} (R : X → X → Type 0) (x : X) (xs : List X) → All (R x) xs → AllPairs R xs → AllPairs R (x ∷ xs)
-AllPairs-cons R x xs first rest zero (suc j) d l m = first j d (omega (arith, m))
-AllPairs-cons R x xs first rest (suc i) (suc j) d l m = rest i j d (omega (arith, l)) (omega (arith, m))
-AllPairs-cons R x xs first rest i zero d l m = absurd (omega (arith, l))
 
 here_stands : (agents columns at n : ℕ) → at < agents * columns → 1 ≤ n → n ≤ 1000 → Stands agents columns at (record { agent = at / columns; object = at % columns; count = n })
 here_stands agents zero at n h low high = absurd (omega (arith, h))

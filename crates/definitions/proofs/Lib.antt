@@ -1,6 +1,12 @@
+pub mod Cells
 mod Computed
 pub mod Families
 pub mod FirstFaults
 pub mod Gives
+pub mod Lists
 pub mod Members
+pub mod Passed
+pub mod Problems
+pub mod Ranges
 pub mod Sums
+pub mod Tickets

@@ -1,13 +1,13 @@
 -- Lists without repeats as finite sets, over a test of equality.
-use Rattle.std.proofs.Common.{◌≡◌, ℕ, suc, ◌+◌, ◌<◌, ◌≤◌, ◌∙◌, List, [], ◌∷◌, Bool, true, false, not, ◌||◌, ◌&&◌, cond, length, get_or, refl, sym, ap, subst, inl, inr, arith}
+use Rattle.std.proofs.Common.{◌≡◌, ℕ, suc, ◌+◌, ◌<◌, ◌≤◌, ◌∙◌, List, [], ◌∷◌, ◌++◌, Bool, true, false, not, ◌||◌, ◌&&◌, cond, length, get_or, refl, sym, ap, subst, inl, inr, arith}
 use Rattle.std.specs.Prelude.{nat_eq, nat_lt, ◌==◌, count_by}
 use Rattle.std.specs.List.{AllByRecursion, IsDistinct, list_any, list_all}
 use Rattle.std.specs.Set.{is_member}
 use Rattle.std.specs.Bool.{Decides}
 use Rattle.std.specs.Str.{bytes_eq}
-use Rattle.std.proofs.lemmas.Bool.{both_ways, or_parts, or_from, and_parts, and_from, and_right, or_left, or_right, or_cases, eqb-true, eq-eqb, lt-ltb}
+use Rattle.std.proofs.lemmas.Bool.{both_ways, or_parts, or_from, and_parts, and_from, and_right, or_left, or_right, or_cases, false_from_ne_true, eqb-true, eq-eqb, lt-ltb}
 use Rattle.std.proofs.lemmas.List.Sums.{sum_by-cons, count_by-le-length}
-use Rattle.std.proofs.lemmas.List.Folds.{list_any_at}
+use Rattle.std.proofs.lemmas.List.Folds.{list_any_at, list_any-append}
 use Rattle.std.proofs.lemmas.Bool.Decides.{nat_tests}
 use Rattle.std.proofs.lemmas.Map.Made.{IsDistinct-from_AllPairs}
 use Rattle.std.proofs.lemmas.Slice.Eq.{bytes_eq-Decides}
@@ -190,6 +190,19 @@ module _ {X : Type 0} (same : X → X → Bool) (s : IsEqualityTest same) where
   pub shared_by_count : (xs ys : List X) → list_any (is_member same ys) xs ≡ nat_lt 0 (common same xs ys)
   shared_by_count xs ys = some_by_count (is_member same ys) xs
 
+  -- the members of two lists end to end
+  pub member_append : (xs ys : List X) (x : X) → is_member same (xs ++ ys) x ≡ (is_member same xs x || is_member same ys x)
+  member_append xs ys x = list_any-append (same x) xs ys
+
+  -- two lists without repeats and without a common member have none end to end
+  pub distinct_append : (xs ys : List X) → IsDistinct same xs → IsDistinct same ys → ((x : X) → is_member same xs x ≡ true → is_member same ys x ≡ true → ⊥) → IsDistinct same (xs ++ ys)
+  distinct_append [] ys dx dy apart = dy
+  distinct_append (x ∷ xs) ys dx dy apart =
+      let off : is_member same ys x ≡ false = false_from_ne_true (is_member same ys x) (apart x (or_left (same x x) (is_member same xs x) (s.self x))) in
+      distinct_more same x (xs ++ ys)
+      (member_append xs ys x ∙ or_from (is_member same xs x) (is_member same ys x) (distinct_first same x xs dx) off)
+      (distinct_append xs ys (distinct_rest same x xs dx) dy (λ y m. apart y (or_right (same y x) (is_member same xs y) m)))
+
 -- a test that decides equality is an equality test
 pub test_from_decides : {X : Type 0} (same : X → X → Bool) → ((x y : X) → Decides (same x y) (x ≡ y)) → IsEqualityTest same
 test_from_decides {X} same d = record {
@@ -229,6 +242,10 @@ rising_distinct cells r = IsDistinct-from_AllPairs {eq = same_cell} cell_decides
     apart : (a b : Cell) → IsBefore a b → a ≡ b → ⊥
     apart a b (inl l) e = let same = ap (λ (c : Cell). c.agent) e in absurd (omega (arith, l, same))
     apart a b (inr l) e = let same = ap (λ (c : Cell). c.object) e in absurd (omega (arith, l.1, same))
+
+-- the rest of rising cells rises
+pub rising_rest : (c : Cell) (cells : List Cell) → IsRising (c ∷ cells) → IsRising cells
+rising_rest c cells r i j d l m = r (suc i) (suc j) d (omega (arith, l)) (omega (arith, m))
 
 not-not : (b : Bool) → not (not b) ≡ b
 not-not true = refl

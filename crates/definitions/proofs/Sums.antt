@@ -1,11 +1,12 @@
--- Sums over lists: equal terms, exchange of summation, a sum restricted to places, and sums of a matrix.
+-- Sums over lists: equal terms, exchange of summation, lists that are made of lists, a sum restricted to places, and sums of a matrix.
 use Rattle.std.proofs.Common.{◌≡◌, ℕ, suc, zero, ◌+◌, ◌*◌, ◌<◌, ◌≤◌, List, [], ◌∷◌, ◌++◌, map, length, take, drop, get_or, refl, ap, sym, ◌∙◌, arith, Bool, true, false, cond, subst}
 use Rattle.std.specs.Prelude.{sum_by, sum, flat_map, ◌||◌}
-use Rattle.std.specs.List.{AllByRecursion, range_with_len, IsDistinct}
+use Rattle.std.specs.List.{AllByRecursion, range_with_len, IsDistinct, zip}
 use Rattle.std.specs.Set.{is_member}
 use Rattle.std.proofs.lemmas.Bool.{lt-ltb, le-ltb}
 use Rattle.std.proofs.lemmas.List.{map-append, take_all, drop-drop}
-use Rattle.std.proofs.lemmas.List.Sums.{sum_by-cons, sum-map}
+use Rattle.std.proofs.lemmas.List.Sums.{sum_by-cons, sum_by-append, sum-map}
+use Rattle.std.proofs.lemmas.Slice.Zip.{firsts-zip}
 use Rattle.std.proofs.Math.Nat.{mul-add}
 use Rattle.std.proofs.Math.Seq.{drop-cons, take-add}
 use Rattle.definitions.specs.declared.Cell.{Cell}
@@ -52,6 +53,28 @@ exchange f (x ∷ xs) ys =
     let split : sum_by (λ y. f x y + sum_by (λ v. f v y) xs) ys ≡ sum_by (f x) ys + sum_by (λ y. sum_by (λ v. f v y) xs) ys = sum_of_sums (f x) (λ y. sum_by (λ v. f v y) xs) ys in
     let same : sum_by (λ y. sum_by (λ v. f v y) (x ∷ xs)) ys ≡ sum_by (λ y. f x y + sum_by (λ v. f v y) xs) ys = sum_same (λ y. sum_by (λ v. f v y) (x ∷ xs)) (λ y. f x y + sum_by (λ v. f v y) xs) ys (λ y. sum_by-cons (λ v. f v y) x xs) in
     omega (arith, head, split, same, exchange f xs ys)
+
+-- a sum over a list that is a function of another
+pub sum_mapped : {X Y : Type 0} (f : Y → ℕ) (g : X → Y) (xs : List X) → sum_by f (map g xs) ≡ sum_by (λ x. f (g x)) xs
+sum_mapped f g [] = refl
+sum_mapped f g (x ∷ xs) = omega (arith, sum_by-cons f (g x) (map g xs), sum_by-cons (λ z. f (g z)) x xs, sum_mapped f g xs)
+
+-- a sum over lists joined end to end
+pub sum_flat : {X Y : Type 0} (f : Y → ℕ) (g : X → List Y) (xs : List X) → sum_by f (flat_map g xs) ≡ sum_by (λ x. sum_by f (g x)) xs
+sum_flat f g [] = refl
+sum_flat f g (x ∷ xs) = omega (arith, sum_by-append f (g x) (flat_map g xs), sum_by-cons (λ z. sum_by f (g z)) x xs, sum_flat f g xs)
+
+-- a sum over the firsts of pairs
+pub sum_firsts : {A B : Type 0} (f : A → ℕ) (xs : List A) (ys : List B) → length ys ≡ length xs → sum_by (λ (w : A × B). f w.0) (zip xs ys) ≡ sum_by f xs
+sum_firsts {A} {B} f xs ys e = sym (sum_mapped f (λ (w : A × B). w.0) (zip xs ys)) ∙ ap (sum_by f) (firsts-zip xs ys e)
+
+-- and over the first k of them
+pub sum_first_firsts : {A B : Type 0} (f : A → ℕ) (k : ℕ) (xs : List A) (ys : List B) → length ys ≡ length xs → sum_by (λ (w : A × B). f w.0) (take k (zip xs ys)) ≡ sum_by f (take k xs)
+sum_first_firsts f zero xs ys e = refl
+sum_first_firsts f (suc k) [] ys e = refl
+sum_first_firsts f (suc k) (a ∷ xs) [] e = absurd (omega arith)
+sum_first_firsts {A} {B} f (suc k) (a ∷ xs) (b ∷ ys) e =
+    omega (arith, sum_by-cons (λ (w : A × B). f w.0) (a, b) (take k (zip xs ys)), sum_by-cons f a (take k xs), sum_first_firsts f k xs ys (omega (arith, e)))
 
 single_step : {X : Type 0} (eq : X → X → Bool) (t : IsEqualityTest eq) (g : X → ℕ) (x y : X) (ys : List X) (b m : Bool) → eq x y ≡ b → is_member eq ys x ≡ m → is_member eq ys y ≡ false → sum_by (λ z. cond (eq x z) (g z) 0) ys ≡ cond m (g x) 0 → cond b (g y) 0 + sum_by (λ z. cond (eq x z) (g z) 0) ys ≡ cond (cond b true m) (g x) 0
 single_step eq t g x y ys true m e f n ih =

@@ -165,9 +165,13 @@ UneatenPlace = IsProblem uneaten_place
     × (Certifies uneaten_place 6 (units_of uneaten_units) (prices_from (8 ∷ 4 ∷ []) ((pos 8 ∷ pos 4 ∷ pos 0 ∷ []) ∷ (pos 8 ∷ pos 4 ∷ pos 0 ∷ []) ∷ (pos 4 ∷ pos 4 ∷ pos 0 ∷ []) ∷ [])) → ⊥)
     × (Certifies uneaten_place 6 (units_of uneaten_units) (prices_from (0 ∷ 0 ∷ []) ((pos 8 ∷ pos 4 ∷ pos 0 ∷ []) ∷ (pos 8 ∷ pos 4 ∷ pos 0 ∷ []) ∷ (pos 4 ∷ pos 1 ∷ pos 0 ∷ []) ∷ [])) → ⊥)
 
--- z's first two places, b and a, have 4 units of 6 together: a set of both cells in rising order, with floor 0 and ceiling 1
+-- z's first two places, b and a, have 4 units of 6 together: a set of both cells in rising order, with floor 0 and ceiling 1. A floor of 1,
+-- a ceiling of 2 and a cell of another agent are refused
 abbrev pub SetOfFirstPlaces : Type 0
-SetOfFirstPlaces = prefix_set uneaten_place uneaten_units 2 2 ≡ record { side = 1; floor = 0; ceiling = 1; cells = cell_of 2 0 ∷ cell_of 2 1 ∷ [] }
+SetOfFirstPlaces = (prefix_set uneaten_place uneaten_units 2 2 ≡ record { side = 1; floor = 0; ceiling = 1; cells = cell_of 2 0 ∷ cell_of 2 1 ∷ [] })
+    × (prefix_set uneaten_place uneaten_units 2 2 ≡ record { side = 1; floor = 1; ceiling = 1; cells = cell_of 2 0 ∷ cell_of 2 1 ∷ [] } → ⊥)
+    × (prefix_set uneaten_place uneaten_units 2 2 ≡ record { side = 1; floor = 0; ceiling = 2; cells = cell_of 2 0 ∷ cell_of 2 1 ∷ [] } → ⊥)
+    × (prefix_set uneaten_place uneaten_units 2 2 ≡ record { side = 1; floor = 0; ceiling = 1; cells = cell_of 1 0 ∷ cell_of 2 1 ∷ [] } → ⊥)
 
 -- one agent's shares 0.25, 1/3 and 2
 abbrev pub mixed_shares : SharesValue
@@ -201,7 +205,7 @@ abbrev pub InfeasibleRow : Type 0
 InfeasibleRow = IsFirstInfeasible row_at_most_one (units_over 2 1 2 (1 ∷ 2 ∷ [])) 1 3
     × (IsFirstInfeasible row_at_most_one (units_over 2 1 2 (1 ∷ 2 ∷ [])) 2 2 → ⊥)
 
--- counts, signed numbers and names
+-- counts, signed numbers and names. Numbers that are off by one are refused
 abbrev pub NumbersAndNames : Type 0
 NumbersAndNames =
     (count_of (codes "007") ≡ Some 7)
@@ -214,6 +218,8 @@ NumbersAndNames =
     × (is_name (codes "Lee, Ada") ≡ true)
     × (is_name (codes "*") ≡ false)
     × (is_name [] ≡ false)
+    × (count_of (codes "007") ≡ Some 8 → ⊥)
+    × (signed_of (codes "-1099511627772") ≡ Some (negsuc 1099511627772) → ⊥)
 
 -- three sets of two cells of a column of three, each two of which share a cell
 abbrev pub three_pairs : List (List Cell)
@@ -239,9 +245,13 @@ SplitOfThree = IsSplit two_pairs (1 ∷ 2 ∷ 1 ∷ [])
 abbrev pub zero_words : ℕ → ℕ
 zero_words k = slice_index (0xade0b876 ∷ 0x903df1a0 ∷ 0xe56a5d40 ∷ 0x28bd8653 ∷ 0xb819d2bd ∷ []) k
 
--- tickets of that seed over 2, 3, 6 and 2^116; over 6 candidate 0 is 6 and is passed over. And the pieces of tickets of weights 1, 2, 1, 2
+-- tickets of that seed over 2, 3, 6 and 2^116; over 6 candidate 0 is 6 and is passed over. And the pieces of tickets of weights 1, 2, 1, 2.
+-- That candidate 0 is taken over 6, the tickets that are off by one, and that ticket 3 is of piece 1 are refused
 abbrev pub TicketsOfZeros : Type 0
 TicketsOfZeros =
     (ticket_of zero_words 2 ≡ Some 0) × (ticket_of zero_words 3 ≡ Some 2) × (ticket_of zero_words 6 ≡ Some 5)
     × (ticket_of zero_words (2 ^ 116) ≡ Some 0xd8653e56a5d40903df1a0ade0b876)
     × (map (piece_of (1 ∷ 2 ∷ 1 ∷ 2 ∷ [])) (range_with_len 0 6) ≡ 0 ∷ 1 ∷ 1 ∷ 2 ∷ 3 ∷ 3 ∷ [])
+    × (ticket_of zero_words 6 ≡ Some 6 → ⊥) × (ticket_of zero_words 6 ≡ Some 4 → ⊥)
+    × (ticket_of zero_words (2 ^ 116) ≡ Some 0xd8653e56a5d40903df1a0ade0b877 → ⊥)
+    × (piece_of (1 ∷ 2 ∷ 1 ∷ 2 ∷ []) 3 ≡ 1 → ⊥)

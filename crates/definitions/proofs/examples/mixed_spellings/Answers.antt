@@ -1,7 +1,8 @@
 -- By tests that compute. Of the wrong pieces, the first list is too long, and in the second none gives a.
-use Rattle.std.proofs.Common.{refl, arith, ◌∷◌, [], ◌≡◌, ◌*◌, ◌%◌, ◌<◌, ℕ, suc, zero, Option, Some, get_or, length, subst}
+use Rattle.std.proofs.Common.{refl, arith, ◌∷◌, [], ◌≡◌, ◌*◌, ◌%◌, ◌<◌, ℕ, suc, zero, Some, get_or, length, subst}
 use Prim.Native.Nat.{◌∣◌}
 use Rattle.std.specs.Prelude.{slice_get, slice_index}
+use Rattle.std.proofs.lemmas.Option.{same_Some}
 use Rattle.std.proofs.lemmas.Nat.Gcd.{dvd_of_mod-eq-zero, mod-eq-zero_of_dvd}
 use Rattle.definitions.specs.Scaling.{IsScaled}
 use Rattle.definitions.specs.Values.{Ratio}
@@ -9,9 +10,6 @@ use Rattle.definitions.specs.Texts.{share_of, count_of}
 use Rattle.definitions.specs.Examples.{mixed_shares, units_over}
 use Rattle.definitions.proofs.Computed.{decomposition_by_tests}
 use Rattle.definitions.proofs.examples.mixed_spellings.Goals as goal
-
-some_is : (r s : Ratio) → Path (Option Ratio) (Some r) (Some s) → r ≡ s
-some_is r s e = cc e
 
 divides : (m n : ℕ) → n % m ≡ 0 → m ∣ n
 divides m n e = dvd_of_mod-eq-zero m e
@@ -42,9 +40,9 @@ mixed_scale = record {
     common (suc (suc (suc k))) s l = absurd (omega (arith, l))
 
     entry : (k : ℕ) (s : Ratio) → slice_get mixed_shares.entries k ≡ Some s → slice_index (3 ∷ 4 ∷ 24 ∷ []) k * s.den ≡ s.num * 12
-    entry zero s e = subst (λ (r : Ratio). 3 * r.den ≡ r.num * 12) (some_is (record { num = 1; den = 4 }) s e) refl
-    entry (suc zero) s e = subst (λ (r : Ratio). 4 * r.den ≡ r.num * 12) (some_is (record { num = 1; den = 3 }) s e) refl
-    entry (suc (suc zero)) s e = subst (λ (r : Ratio). 24 * r.den ≡ r.num * 12) (some_is (record { num = 2; den = 1 }) s e) refl
+    entry zero s e = subst (λ (r : Ratio). 3 * r.den ≡ r.num * 12) (same_Some (record { num = 1; den = 4 }) s e) refl
+    entry (suc zero) s e = subst (λ (r : Ratio). 4 * r.den ≡ r.num * 12) (same_Some (record { num = 1; den = 3 }) s e) refl
+    entry (suc (suc zero)) s e = subst (λ (r : Ratio). 24 * r.den ≡ r.num * 12) (same_Some (record { num = 2; den = 1 }) s e) refl
     entry (suc (suc (suc k))) s e = cc e
 
 pub returns : goal.returns

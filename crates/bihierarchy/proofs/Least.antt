@@ -1,16 +1,11 @@
 -- The least set so far by size and then number.
-use Rattle.std.proofs.Common.{◌≡◌, ◌⊎◌, ℕ, ◌+◌, ◌<◌, ◌∙◌, Bool, true, false, Option, None, Some, sym, subst, inl, inr, arith}
+use Rattle.std.proofs.Common.{◌≡◌, ◌⊎◌, ℕ, ◌+◌, ◌<◌, Bool, true, false, Option, None, Some, sym, subst, inl, inr, arith}
 use Rattle.std.specs.Prelude.{◌↔◌, IsTrue, MatchOption, IfSome}
 use Rattle.std.proofs.lemmas.Bool.{both_ways, cases_lt}
 use Rattle.definitions.specs.Sets.{FamilyValue, set_size}
 use Rattle.definitions.specs.Hierarchies.{IsLower}
+use Rattle.definitions.proofs.Families.{lower_through}
 use Rattle.bihierarchy.specs.Tables.{IsLeastOf}
-
-lower_further : (f : FamilyValue) (s t u : ℕ) → IsLower f s t → IsLower f t u → IsLower f s u
-lower_further f s t u (inl l) (inl m) = inl (omega (arith, l, m))
-lower_further f s t u (inl l) (inr m) = inl (omega (arith, l, m.0))
-lower_further f s t u (inr l) (inl m) = inl (omega (arith, l.0, m))
-lower_further f s t u (inr l) (inr m) = inr (l.0 ∙ m.0, omega (arith, l.1, m.1))
 
 -- of two sets one is lower, or they are one
 lower_or : (f : FamilyValue) (s t : ℕ) → (IsLower f s t → ⊥) → (s ≡ t) ⊎ IsLower f t s
@@ -55,7 +50,7 @@ module _ (f : FamilyValue) (P : ℕ → Type 0) where
     λ u l p. elim (below_next u n l) [
       | inl less ↦ elim (h.1 u less p) [
         | inl best ↦ inr (subst (λ (v : ℕ). IsLower f n v) (sym best) low)
-        | inr above ↦ inr (lower_further f n t u low above)
+        | inr above ↦ inr (lower_through f n t u low above)
       ]
       | inr same ↦ inl same
     ],

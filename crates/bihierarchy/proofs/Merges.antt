@@ -6,7 +6,7 @@ use Rattle.std.proofs.lemmas.List.{drop_all}
 use Rattle.std.proofs.lemmas.List.Sums.{sum_by-cons}
 use Rattle.definitions.specs.declared.Cell.{Cell}
 use Rattle.definitions.specs.Sets.{cell_of, same_cell, holds, IsBefore, IsRising}
-use Rattle.definitions.proofs.Members.{cell_test, cell_decides, count_none, rising_distinct, common_turned}
+use Rattle.definitions.proofs.Members.{cell_test, cell_decides, count_none, rising_distinct, rising_rest, common_turned}
 
 -- the cells of the second that are in the first
 abbrev pub shared : List Cell → List Cell → ℕ
@@ -28,9 +28,6 @@ not_same x y h = by_test (same_cell x y) refl
     by_test : (b : Bool) → same_cell x y ≡ b → same_cell x y ≡ false
     by_test true e = absurd (no h ((cell_decides x y).0 e))
     by_test false e = e
-
-rising_rest : (x : Cell) (xs : List Cell) → IsRising (x ∷ xs) → IsRising xs
-rising_rest x xs r i j d l m = r (suc i) (suc j) d (omega (arith, l)) (omega (arith, m))
 
 -- a cell before the first of a rising list is not in it
 pub before_first : (x y : Cell) (ys : List Cell) → IsRising (y ∷ ys) → IsBefore x y → holds (y ∷ ys) x ≡ false

@@ -1,27 +1,18 @@
 -- The sets of a lawful family by their numbers.
-use Rattle.std.proofs.Common.{◌≡◌, ℕ, ◌-◌, ◌<◌, ◌∙◌, List, [], get_or, sym, subst, inl, inr, arith}
+use Rattle.std.proofs.Common.{◌≡◌, ℕ, ◌-◌, ◌<◌, ◌∙◌, List, sym, subst, inl, inr, arith}
 use Rattle.std.specs.Prelude.{IsTrue}
 use Rattle.std.specs.List.{IsDistinct}
 use Rattle.std.proofs.lemmas.Bool.{cases_lt}
-use Rattle.std.proofs.lemmas.List.{get_or-map}
-use Rattle.std.proofs.lemmas.Option.{unwrap_or-slice_get}
 use Rattle.definitions.specs.declared.Cell.{Cell}
-use Rattle.definitions.specs.Sets.{SetValue, FamilyValue, IsFamily, IsSet, IsRising, IsBihierarchy, cells_of, set_cells, crosses, same_cell}
+use Rattle.definitions.specs.Sets.{FamilyValue, IsFamily, IsSet, IsRising, IsBihierarchy, set_cells, crosses, same_cell}
 use Rattle.definitions.proofs.Members.{crosses_turned, crosses_self, rising_distinct}
-use Rattle.definitions.proofs.Families.{set_of_number}
+use Rattle.definitions.proofs.Families.{no_set, cells_of_set, set_of_number}
 use Rattle.bihierarchy.specs.Crossing.{CrossOnOneSide}
-
-no_set : SetValue
-no_set = record { side = 1; floor = 0; ceiling = 0; cells = [] }
-
--- the cells of a set are those at its place
-cells_at_place : (f : FamilyValue) (s : ℕ) → IsSet f s → set_cells f s ≡ (get_or f.sets (s - 1) no_set).cells
-cells_at_place f s known = unwrap_or-slice_get (cells_of f) (s - 1) [] ∙ get_or-map (λ (q : SetValue). q.cells) f.sets (s - 1) no_set [] (omega (arith, known.0, known.1))
 
 -- the cells of a set rise
 pub rising_cells : (f : FamilyValue) (s : ℕ) → IsFamily f → IsSet f s → IsRising (set_cells f s)
 rising_cells f s lawful known =
-    subst (λ (cells : List Cell). IsRising cells) (sym (cells_at_place f s known))
+    subst (λ (cells : List Cell). IsRising cells) (sym (cells_of_set f s known no_set))
     (lawful.lawful (s - 1) no_set (omega (arith, known.0, known.1))).rise
 
 -- where no pair with the lower number first crosses, none does

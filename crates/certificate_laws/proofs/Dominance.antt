@@ -12,8 +12,8 @@ use Rattle.definitions.specs.Sets.{cell_of, prefix_sum}
 use Rattle.definitions.specs.Values.{ProblemValue, IsProblem, PricesValue, list_at, demand_at, worths_of}
 use Rattle.definitions.specs.Assignment.{IsRandomAssignment, Dominates, worth_total}
 use Rattle.definitions.specs.Certificate.{Certifies, HasShapeOf, Falls, FallsFrom}
-use Rattle.definitions.proofs.Sums.{sum_of_sums, sum_scaled, sum_le_all}
-use Rattle.certificate_laws.proofs.Lists.{sum_first_firsts, each_below}
+use Rattle.definitions.proofs.Sums.{sum_of_sums, sum_scaled, sum_le_all, sum_first_firsts}
+use Rattle.definitions.proofs.Lists.{each_below}
 use Rattle.certificate_laws.proofs.Worths.{gains, losses, times, below_from_parts}
 use Rattle.certificate_laws.proofs.Carry.{FallsAlong, IsAhead, spare, carry, ahead_from_fronts, spare_from_front}
 use Rattle.certificate_laws.proofs.Duality.{row_total, turn, duality_parts}

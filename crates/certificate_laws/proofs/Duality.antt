@@ -11,9 +11,10 @@ use Rattle.definitions.specs.Sets.{cell_of, same_cell, set_sum, SetValue}
 use Rattle.definitions.specs.Values.{ProblemValue, IsProblem, PricesValue, list_at, demand_at, listed_cells, stated_sets, worths_of, is_capped}
 use Rattle.definitions.specs.Assignment.{IsRandomAssignment, worth_total}
 use Rattle.definitions.specs.Certificate.{Certifies, HasShapeOf, is_left_out, place_cell, worth_at, cell_price}
-use Rattle.definitions.proofs.Sums.{sum_same, sum_same_all, sum_of_sums, sum_scaled, sum_le_all}
-use Rattle.certificate_laws.proofs.Lists.{sum_firsts, each_pair, each_below}
-use Rattle.certificate_laws.proofs.Listed.{list_lawful, listed_distinct, off_lists, row_on_list, sum_listed}
+use Rattle.definitions.proofs.Sums.{sum_same, sum_same_all, sum_of_sums, sum_scaled, sum_le_all, sum_firsts}
+use Rattle.definitions.proofs.Lists.{each_pair, each_below}
+use Rattle.definitions.proofs.Problems.{list_lawful}
+use Rattle.certificate_laws.proofs.Listed.{listed_distinct, off_lists, row_on_list, sum_listed}
 use Rattle.certificate_laws.proofs.Rows.{IsBest, row, Level, level}
 use Rattle.certificate_laws.proofs.Prices.{price_in, prices_exchanged}
 use Rattle.certificate_laws.proofs.Limits.{stated_kept, stated_distinct, capped_kept, none_unpriced, none_kept}

@@ -13,9 +13,10 @@ use Rattle.definitions.specs.Assignment.{IsRandomAssignment, Held, worth_sum}
 use Rattle.definitions.specs.Certificate.{Falls, FallsFrom}
 use Rattle.definitions.specs.Rounding.{IsRounded, Rounds}
 use Rattle.definitions.specs.Fairness.{guarded_family}
+use Rattle.definitions.proofs.Sums.{sum_mapped, sum_firsts, sum_first_firsts}
+use Rattle.definitions.proofs.Problems.{list_lawful}
 use Rattle.certificate_laws.specs.Guarded.{places_sum, number_at}
-use Rattle.certificate_laws.proofs.Lists.{sum_mapped, sum_firsts, sum_first_firsts}
-use Rattle.certificate_laws.proofs.Listed.{list_lawful, row_on_list}
+use Rattle.certificate_laws.proofs.Listed.{row_on_list}
 use Rattle.certificate_laws.proofs.Worths.{sum_parts}
 use Rattle.certificate_laws.proofs.Near.{rounded_near, rounded_whole, last_of, SinksAlong, near_from_fronts, guard}
 use Rattle.certificate_laws.proofs.PrefixSets.{prefix_rounded}

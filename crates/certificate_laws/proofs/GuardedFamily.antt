@@ -9,7 +9,7 @@ use Rattle.definitions.specs.Sets.{cell_of, same_cell, holds, overlaps, is_subse
 use Rattle.definitions.specs.Values.{ProblemValue, column_count, list_at}
 use Rattle.definitions.specs.Fairness.{prefix_set}
 use Rattle.definitions.proofs.Members.{cell_test, all_from_members}
-use Rattle.certificate_laws.proofs.Listed.{row_member}
+use Rattle.definitions.proofs.Cells.{row_member}
 
 -- ---- what crosses
 

@@ -9,7 +9,7 @@ use Rattle.definitions.specs.Sets.{crosses, SetValue, FamilyValue, ScaledValue, 
 use Rattle.definitions.specs.Values.{ProblemValue, IsProblem, IsStatedSet, column_count, stated_sets, row_sets}
 use Rattle.definitions.specs.Fairness.{guarded_family}
 use Rattle.definitions.proofs.Families.{set_of_number}
-use Rattle.certificate_laws.proofs.Lists.{each_at}
+use Rattle.definitions.proofs.Lists.{each_at}
 use Rattle.certificate_laws.proofs.PrefixSets.{added_sets}
 use Rattle.certificate_laws.proofs.GuardedFamily.{IsRowSet, fronts_apart, each_append, rows_are, added_are}
 

@@ -1,4 +1,3 @@
-pub mod Lists
 pub mod Listed
 pub mod Rows
 pub mod Prices

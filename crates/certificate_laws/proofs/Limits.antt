@@ -1,9 +1,9 @@
 -- What a random assignment keeps at stated sets and at capped cells, and the column of `none`.
 use Rattle.std.proofs.Common.{◌≡◌, ℕ, suc, zero, ◌+◌, ◌-◌, ◌*◌, ◌<◌, ◌≤◌, List, [], ◌∷◌, map, length, refl, ap, sym, ◌∙◌, arith, true, false, cond, ◌&&◌, Some, subst, inl, inr, All}
-use Rattle.std.specs.Prelude.{sum_by, slice_get, slice_index, nat_eq, nat_le, nat_lt, unwrap_or, ◌==◌}
+use Rattle.std.specs.Prelude.{sum_by, slice_get, nat_eq, nat_le, nat_lt, ◌==◌}
 use Rattle.std.specs.List.{AllByRecursion, zip, IsDistinct}
 use Rattle.std.specs.Set.{is_member}
-use Rattle.std.proofs.lemmas.Bool.{or_from, or_cases, or_left, or_right, and_left, and_right, and_parts, eqb-true, ne_eqb, le-ltb, ltb-true}
+use Rattle.std.proofs.lemmas.Bool.{or_cases, or_left, or_right, and_left, and_right, and_parts, eqb-true, le-ltb, ltb-true}
 use Rattle.std.proofs.lemmas.Option.{same_Some, slice_get_within}
 use Rattle.std.proofs.lemmas.List.Elements.{recursion_from_All, All-take}
 use Rattle.std.proofs.lemmas.List.Sums.{sum_by-cons}
@@ -12,18 +12,15 @@ use Rattle.definitions.specs.Sets.{cell_of, same_cell, holds, set_sum, SetValue,
 use Rattle.definitions.specs.Values.{Limit, Agent, ProblemValue, IsProblem, IsStatedSet, but_last, capped_limits, market_agents, limits_of, stated_sets, list_at, demand_at, is_capped}
 use Rattle.definitions.specs.Certificate.{is_left_out}
 use Rattle.definitions.proofs.Members.{rising_distinct}
-use Rattle.certificate_laws.proofs.Lists.{each_at, each_mapped, each_of_front, each_of_rest}
-use Rattle.certificate_laws.proofs.Listed.{list_lawful}
+use Rattle.definitions.proofs.Lists.{each_at, each_mapped, each_of_front, each_of_rest}
+use Rattle.definitions.proofs.Problems.{limit_of, agent_of, list_lawful, none_held}
 use Rattle.certificate_laws.proofs.Prices.{price_in}
 
 -- x over d is within the ceiling of a limit
 abbrev pub IsKept : (Cell → ℕ) → ℕ → Limit → Type 0
 IsKept x d s = set_sum x s.cells ≤ s.ceiling * d
 
--- a stated set as a limit, the limit of a capped cell, and those of an agent's capped cells
-abbrev limit_of : SetValue → Limit
-limit_of s = record { ceiling = s.ceiling; cells = s.cells }
-
+-- the limit of a capped cell, and those of an agent's capped cells
 abbrev cap_of : ℕ → ℕ → Limit
 cap_of i a = record { ceiling = 1; cells = cell_of i a ∷ [] }
 
@@ -41,13 +38,6 @@ stated_kept p x d k q h e =
 pub stated_distinct : (p : ProblemValue) (k : ℕ) (q : SetValue) → IsProblem p → slice_get (stated_sets p) k ≡ Some q → IsDistinct same_cell q.cells
 stated_distinct p k q h e =
     rising_distinct q.cells (each_at IsQuotaSet (stated_sets p) k q (recursion_from_All IsQuotaSet (stated_sets p) (All-take IsQuotaSet p.stated p.family.sets h.family.lawful)) e).rise
-
-agent_within : (demands : List ℕ) (lists : List (List ℕ)) (i : ℕ) → i < length demands → i < length lists
-    → slice_get (market_agents demands lists) i ≡ Some (record { demand = slice_index demands i; list = unwrap_or (slice_get lists i) [] })
-agent_within [] lists i l k = absurd (omega arith)
-agent_within (d ∷ demands) [] i l k = absurd (omega arith)
-agent_within (d ∷ demands) (list ∷ lists) zero l k = refl
-agent_within (d ∷ demands) (list ∷ lists) (suc i) l k = agent_within demands lists i (omega arith) (omega arith)
 
 -- what holds of each one of these limits holds of the limit of a member
 each_member : (P : Limit → Type 0) (i a : ℕ) (list : List ℕ) → AllByRecursion P (map (cap_of i) list) → is_member nat_eq list a ≡ true
@@ -106,15 +96,8 @@ capped_kept p x d i a h l kept capped =
     each_of_rest (IsKept x d) (map limit_of (stated_sets p)) (capped_limits 0 (market_agents p.demands p.lists)) (recursion_from_All (IsKept x d) (limits_of p) kept) in
     let bound : sum_by x (cell_of i a ∷ []) ≤ 1 * d =
     capped_at (IsKept x d) 0 (market_agents p.demands p.lists) i i (record { demand = demand_at p i; list = list_at p i }) a rest (omega arith)
-    (agent_within p.demands p.lists i (omega (arith, h.demands_many)) (omega (arith, h.lists_many))) one.0 member in
+    (agent_of p i h l) one.0 member in
     omega (arith, bound, sum_by-cons x (cell_of i a) [])
-
--- a set whose columns are all below n holds no cell of column n
-none_held : (i n : ℕ) (cells : List Cell) → AllByRecursion (λ c. c.object < n) cells → holds cells (cell_of i n) ≡ false
-none_held i n [] h = refl
-none_held i n (c ∷ cells) h =
-    or_from (same_cell (cell_of i n) c) (holds cells (cell_of i n)) (and_right (i == c.agent) (n == c.object) (ne_eqb n c.object (λ e. (let l : c.object < n = h.0 in absurd (omega arith)))))
-    (none_held i n cells h.1)
 
 unpriced : (sets : List SetValue) (price : List ℕ) (c : Cell) → AllByRecursion (λ s. holds s.cells c ≡ false) sets → price_in (zip sets price) c ≡ 0
 unpriced [] price c h = refl

@@ -1,36 +1,20 @@
 -- The cells of all lists of a lawful problem, and sums over the places of lists.
-use Rattle.std.proofs.Common.{◌≡◌, ℕ, ◌+◌, ◌<◌, ◌≤◌, List, [], ◌∷◌, ◌++◌, map, length, get_or, refl, ap, sym, ◌∙◌, arith, Bool, true, false, cond, ◌||◌, ◌&&◌, subst, inl, inr}
+use Rattle.std.proofs.Common.{◌≡◌, ℕ, ◌+◌, ◌<◌, ◌≤◌, List, [], ◌∷◌, ◌++◌, map, length, get_or, refl, ap, sym, ◌∙◌, arith, Bool, true, false, cond, subst, inl, inr}
 use Rattle.std.specs.Prelude.{sum_by, flat_map, slice_get, nat_eq, unwrap_or}
 use Rattle.std.specs.List.{AllByRecursion, IsDistinct, range_with_len, enumerate_from}
 use Rattle.std.specs.Set.{is_member}
-use Rattle.std.proofs.lemmas.Bool.{or_cases, and_right, and_parts, both_ways, false_from_ne_true, eqb-true, cases_lt, or_left, or_right, and_from}
-use Rattle.std.proofs.lemmas.Option.{unwrap_or-slice_get, slice_get_past}
+use Rattle.std.proofs.lemmas.Bool.{or_cases, and_parts, both_ways, false_from_ne_true, eqb-true, or_left, or_right, and_from}
+use Rattle.std.proofs.lemmas.Option.{unwrap_or-slice_get}
 use Rattle.std.proofs.lemmas.List.Elements.{recursion_from_All}
 use Rattle.std.proofs.lemmas.List.FromFn.{fill_by_all, length-enumerate_from, get_or-enumerate_from}
 use Rattle.definitions.specs.declared.Cell.{Cell}
 use Rattle.definitions.specs.Sets.{cell_of, same_cell, holds, row_sum}
-use Rattle.definitions.specs.Values.{ProblemValue, IsProblem, IsListUpTo, column_count, list_at, listed_cells}
-use Rattle.definitions.proofs.Members.{number_test, distinct_first, distinct_rest, distinct_none, distinct_more}
-use Rattle.definitions.proofs.Sums.{sum_same, sum_same_all, restrict}
-use Rattle.certificate_laws.proofs.Lists.{sum_mapped, sum_flat, member_append, distinct_append, range_distinct, within_range}
-
-and_or : (b t r : Bool) → ((b && t) || (b && r)) ≡ (b && (t || r))
-and_or true t r = refl
-and_or false t r = refl
-
--- a cell is on an agent's row of places exactly where it is the agent's and its column is on the list
-pub row_member : (i : ℕ) (list : List ℕ) (c : Cell) → holds (map (cell_of i) list) c ≡ (nat_eq c.agent i && is_member nat_eq list c.object)
-row_member i [] c = sym (and_right (nat_eq c.agent i) false refl)
-row_member i (a ∷ list) c =
-    ap (λ b. (nat_eq c.agent i && nat_eq c.object a) || b) (row_member i list c)
-    ∙ and_or (nat_eq c.agent i) (nat_eq c.object a) (is_member nat_eq list c.object)
-
-row_distinct : (i : ℕ) (list : List ℕ) → IsDistinct nat_eq list → IsDistinct same_cell (map (cell_of i) list)
-row_distinct i [] d = distinct_none same_cell
-row_distinct i (a ∷ list) d =
-    distinct_more same_cell (cell_of i a) (map (cell_of i) list)
-    (row_member i list (cell_of i a) ∙ and_right (nat_eq i i) (is_member nat_eq list a) (distinct_first nat_eq a list d))
-    (row_distinct i list (distinct_rest nat_eq a list d))
+use Rattle.definitions.specs.Values.{ProblemValue, IsProblem, column_count, list_at, listed_cells}
+use Rattle.definitions.proofs.Members.{number_test, distinct_first, distinct_rest, distinct_none, cell_test, member_append, distinct_append}
+use Rattle.definitions.proofs.Sums.{sum_same, sum_same_all, restrict, sum_mapped, sum_flat}
+use Rattle.definitions.proofs.Ranges.{distinct_range, member_of_range}
+use Rattle.definitions.proofs.Cells.{row_member, row_distinct}
+use Rattle.definitions.proofs.Problems.{list_lawful, list_distinct}
 
 -- the places of these agents, where l gives each agent's list
 abbrev pub places_of : (ℕ → List ℕ) → List ℕ → List Cell
@@ -41,7 +25,7 @@ pub place_listed : (l : ℕ → List ℕ) (agents : List ℕ) (c : Cell) → hol
     → (is_member nat_eq agents c.agent ≡ true) × (is_member nat_eq (l c.agent) c.object ≡ true)
 place_listed l [] c h = absurd (cc)
 place_listed l (i ∷ agents) c h =
-    elim (or_cases (holds (map (cell_of i) (l i)) c) (holds (places_of l agents) c) (sym (member_append same_cell (map (cell_of i) (l i)) (places_of l agents) c) ∙ h)) [
+    elim (or_cases (holds (map (cell_of i) (l i)) c) (holds (places_of l agents) c) (sym (member_append same_cell cell_test (map (cell_of i) (l i)) (places_of l agents) c) ∙ h)) [
       | inl here ↦
           let parts = and_parts (nat_eq c.agent i) (is_member nat_eq (l i) c.object) (sym (row_member i (l i) c) ∙ here) in
           let same : c.agent ≡ i = eqb-true c.agent i parts.0 in
@@ -55,7 +39,7 @@ place_listed l (i ∷ agents) c h =
 place_of_list : (l : ℕ → List ℕ) (agents : List ℕ) (i a : ℕ) → is_member nat_eq agents i ≡ true → is_member nat_eq (l i) a ≡ true → holds (places_of l agents) (cell_of i a) ≡ true
 place_of_list l [] i a m n = absurd (cc)
 place_of_list l (j ∷ agents) i a m n =
-    member_append same_cell (map (cell_of j) (l j)) (places_of l agents) (cell_of i a)
+    member_append same_cell cell_test (map (cell_of j) (l j)) (places_of l agents) (cell_of i a)
     ∙ elim (or_cases (nat_eq i j) (is_member nat_eq agents i) m) [
       | inl here ↦
           or_left (holds (map (cell_of j) (l j)) (cell_of i a)) (holds (places_of l agents) (cell_of i a))
@@ -67,14 +51,11 @@ place_of_list l (j ∷ agents) i a m n =
 places_distinct : (l : ℕ → List ℕ) (agents : List ℕ) → ((i : ℕ) → IsDistinct nat_eq (l i)) → IsDistinct nat_eq agents → IsDistinct same_cell (places_of l agents)
 places_distinct l [] d h = distinct_none same_cell
 places_distinct l (i ∷ agents) d h =
-    distinct_append same_cell (map (cell_of i) (l i)) (places_of l agents) (row_distinct i (l i) (d i)) (places_distinct l agents d (distinct_rest nat_eq i agents h)) (apart (l i))
-  where
-    apart : (list : List ℕ) → AllByRecursion (λ c. holds (places_of l agents) c ≡ false) (map (cell_of i) list)
-    apart [] = tt
-    apart (a ∷ list) = (
-      false_from_ne_true (holds (places_of l agents) (cell_of i a)) (λ e. both_ways (is_member nat_eq agents i) (distinct_first nat_eq i agents h) (place_listed l agents (cell_of i a) e).0),
-      apart list,
-    )
+    distinct_append same_cell cell_test (map (cell_of i) (l i)) (places_of l agents) (row_distinct i (l i) (d i)) (places_distinct l agents d (distinct_rest nat_eq i agents h))
+    (λ c here later.
+    let parts = and_parts (nat_eq c.agent i) (is_member nat_eq (l i) c.object) (sym (row_member i (l i) c) ∙ here) in
+    let member = subst (λ n. is_member nat_eq agents n ≡ true) (eqb-true c.agent i parts.0) (place_listed l agents c later).0 in
+    both_ways (is_member nat_eq agents i) (distinct_first nat_eq i agents h) member)
 
 enumerated : (lists : List (List ℕ)) → enumerate_from 0 lists ≡ map (λ i. (i, unwrap_or (slice_get lists i) [])) (range_with_len 0 (length lists))
 enumerated lists =
@@ -109,25 +90,12 @@ listed_column p c h = (place_listed (list_at p) (range_with_len 0 (length p.list
 pub column_listed : (p : ProblemValue) (i a : ℕ) → i < length p.lists → is_member nat_eq (list_at p i) a ≡ true → holds (listed_cells p) (cell_of i a) ≡ true
 column_listed p i a l m =
     ap (λ cells. holds cells (cell_of i a)) (listed_places p)
-    ∙ place_of_list (list_at p) (range_with_len 0 (length p.lists)) i a (within_range i 0 (length p.lists) (omega arith) (omega arith)) m
-
--- each agent has a lawful list
-pub list_lawful : (p : ProblemValue) (i : ℕ) → IsProblem p → i < length p.agents → IsListUpTo (length p.objects) (list_at p i)
-list_lawful p i h l =
-    let inside : i < length p.lists = omega (arith, h.lists_many) in
-    subst (IsListUpTo (length p.objects)) (sym (unwrap_or-slice_get p.lists i [])) (h.lists i [] inside)
-
--- no list has a column twice
-pub list_distinct : (p : ProblemValue) (i : ℕ) → IsProblem p → IsDistinct nat_eq (list_at p i)
-list_distinct p i h = elim (cases_lt i (length p.agents)) [
-  | inl l ↦ (list_lawful p i h l).apart
-  | inr k ↦ let past : length p.lists ≤ i = omega (arith, h.lists_many) in subst (λ o. IsDistinct nat_eq (unwrap_or o [])) (sym (slice_get_past p.lists i past)) (distinct_none nat_eq)
-]
+    ∙ place_of_list (list_at p) (range_with_len 0 (length p.lists)) i a (member_of_range 0 (length p.lists) i (omega arith) (omega arith)) m
 
 -- no cell is listed twice
 pub listed_distinct : (p : ProblemValue) → IsProblem p → IsDistinct same_cell (listed_cells p)
 listed_distinct p h =
-    subst (IsDistinct same_cell) (sym (listed_places p)) (places_distinct (list_at p) (range_with_len 0 (length p.lists)) (λ i. list_distinct p i h) (range_distinct 0 (length p.lists)))
+    subst (IsDistinct same_cell) (sym (listed_places p)) (places_distinct (list_at p) (range_with_len 0 (length p.lists)) (λ i. list_distinct p i h) (distinct_range 0 (length p.lists)))
 
 off_cases : (b : Bool) (n : ℕ) → (b ≡ false → n ≡ 0) → cond b n 0 ≡ n
 off_cases true n h = refl
@@ -145,7 +113,7 @@ row_on_list p x i h l off =
     let columns = range_with_len 0 (column_count p) in
     let known : AllByRecursion (λ a. a ≤ length p.objects) list = recursion_from_All (λ a. a ≤ length p.objects) list (list_lawful p i h l).known in
     sum_mapped x (cell_of i) columns
-    ∙ restrict nat_eq number_test (λ a. x (cell_of i a)) columns list (range_distinct 0 (column_count p)) (list_lawful p i h l).apart
+    ∙ restrict nat_eq number_test (λ a. x (cell_of i a)) columns list (distinct_range 0 (column_count p)) (list_lawful p i h l).apart
     (λ a. off_cases (is_member nat_eq list a) (x (cell_of i a)) (λ e. off (cell_of i a) (false_from_ne_true (holds (listed_cells p) (cell_of i a)) (λ t. both_ways (is_member nat_eq list a) e (listed_column p (cell_of i a) t)))))
     ∙ sum_same_all (λ a. a ≤ length p.objects) (λ a. cond (is_member nat_eq columns a) (x (cell_of i a)) 0) (λ a. x (cell_of i a)) list
-    (λ a k. ap (λ b. cond b (x (cell_of i a)) 0) (within_range a 0 (column_count p) (omega arith) (omega (arith, k)))) known
+    (λ a k. ap (λ b. cond b (x (cell_of i a)) 0) (member_of_range 0 (column_count p) a (omega arith) (omega (arith, k)))) known

@@ -13,8 +13,9 @@ use Rattle.definitions.specs.Rounding.{IsRounded, Rounds}
 use Rattle.definitions.specs.Fairness.{prefix_set, guarded_family}
 use Rattle.definitions.proofs.Members.{number_test, distinct_first, distinct_rest, distinct_none, distinct_more}
 use Rattle.definitions.proofs.Sums.{restrict, unit_at_past}
-use Rattle.certificate_laws.proofs.Lists.{range_distinct, within_range, each_mapped, each_of_front, each_of_rest}
-use Rattle.certificate_laws.proofs.Listed.{list_distinct}
+use Rattle.definitions.proofs.Lists.{each_mapped, each_of_front, each_of_rest}
+use Rattle.definitions.proofs.Ranges.{distinct_range, member_of_range}
+use Rattle.definitions.proofs.Problems.{list_distinct}
 
 member_of_front : {X : Type 0} (same : X → X → Bool) (k : ℕ) (xs : List X) (x : X) → is_member same xs x ≡ false → is_member same (take k xs) x ≡ false
 member_of_front same zero xs x e = refl
@@ -49,11 +50,11 @@ prefix_set_sum p x m i k h =
     let front = take k (list_at p i) in
     let units = λ (a : ℕ). unit_at (column_count p) m (cell_of i a) in
     sum_of_part (unit_at n m) i (λ a. is_member nat_eq front a) (range_with_len 0 n)
-    ∙ sym (restrict nat_eq number_test units front (range_with_len 0 n) (front_distinct nat_eq k (list_at p i) (list_distinct p i h)) (range_distinct 0 n) off)
+    ∙ sym (restrict nat_eq number_test units front (range_with_len 0 n) (front_distinct nat_eq k (list_at p i) (list_distinct p i h)) (distinct_range 0 n) off)
   where
     off : (a : ℕ) → cond (is_member nat_eq (range_with_len 0 (column_count p)) a) (unit_at (column_count p) m (cell_of i a)) 0 ≡ unit_at (column_count p) m (cell_of i a)
     off a = elim (cases_lt a (column_count p)) [
-      | inl l ↦ ap (λ b. cond b (unit_at (column_count p) m (cell_of i a)) 0) (within_range a 0 (column_count p) (omega arith) (omega arith))
+      | inl l ↦ ap (λ b. cond b (unit_at (column_count p) m (cell_of i a)) 0) (member_of_range 0 (column_count p) a (omega arith) (omega arith))
       | inr past ↦ none (is_member nat_eq (range_with_len 0 (column_count p)) a) (unit_at (column_count p) m (cell_of i a)) (unit_at_past (column_count p) m (cell_of i a) past)
     ]
       where

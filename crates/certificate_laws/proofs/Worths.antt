@@ -9,8 +9,7 @@ use Rattle.definitions.specs.declared.Cell.{Cell}
 use Rattle.definitions.specs.Sets.{cell_of}
 use Rattle.definitions.specs.Values.{ProblemValue, list_at, PricesValue, worths_of}
 use Rattle.definitions.specs.Assignment.{Held, held_by, worth_sum, worth_total}
-use Rattle.definitions.proofs.Sums.{sum_same, sum_scaled}
-use Rattle.certificate_laws.proofs.Lists.{sum_mapped, sum_flat}
+use Rattle.definitions.proofs.Sums.{sum_same, sum_scaled, sum_mapped, sum_flat}
 
 -- a sum over the places of all lists, by agent and by column and worth
 abbrev pub over_places : ProblemValue → PricesValue → (ℕ → ℕ × ℤ → ℕ) → ℕ

@@ -1,12 +1,11 @@
 -- The assignment of an eating table is a random assignment.
 use Rattle.std.proofs.Common.{subst, ◌≡◌, ℕ, suc, zero, ◌+◌, ◌-◌, ◌*◌, ◌<◌, ◌≤◌, List, [], ◌∷◌, ◌++◌, Bool, true, false, length, map, get_or, refl, ap, sym, ◌∙◌, arith, inl, inr}
-use Rattle.std.specs.Prelude.{All, nat_eq, slice_get, unwrap_or, sum_by, ◌⊎◌, ◌&&◌, ◌||◌, flat_map}
+use Rattle.std.specs.Prelude.{All, nat_eq, slice_get, unwrap_or, ◌⊎◌, ◌&&◌, ◌||◌, flat_map}
 use Rattle.std.specs.List.{AllByRecursion, IsDistinct, enumerate_from, range_with_len}
 use Rattle.std.specs.Option.{option_map_or}
 use Rattle.std.specs.Set.{is_member}
 use Rattle.std.proofs.lemmas.Bool.{or_parts, or_from, eq-eqb, ne_eqb, cases_lt}
 use Rattle.std.proofs.lemmas.List.{get_or_past}
-use Rattle.std.proofs.lemmas.List.Sums.{sum_by-cons}
 use Rattle.std.proofs.lemmas.Option.{slice_get-get_or}
 use Rattle.std.proofs.lemmas.List.Elements.{recursion_from_All}
 use Rattle.std.proofs.Math.Nat.{mul-le-mul_right}
@@ -15,19 +14,16 @@ use Rattle.definitions.specs.Sets.{cell_of, same_cell, holds, set_sum, row_sum, 
 use Rattle.definitions.specs.Values.{Limit, Agent, Market, ProblemValue, IsProblem, market_of, limits_of, listed_cells, list_at, demand_at, column_count}
 use Rattle.definitions.specs.Eating.{share, eaten_by, moment_at, slot_cells, slot_ceiling, IsEatingTable, IsAssignmentOf}
 use Rattle.definitions.specs.Assignment.{IsRandomAssignment}
-use Rattle.definitions.proofs.Sums.{sum_same, unit_at_within, unit_at_past}
+use Rattle.definitions.proofs.Sums.{sum_same, unit_at_within, unit_at_past, sum_mapped}
+use Rattle.definitions.proofs.Problems.{agent_of, list_lawful}
 use Rattle.eating_laws.specs.Shares.{IsMatrixFor}
 use Rattle.eating_laws.proofs.Full.{full_never}
-use Rattle.eating_laws.proofs.Limits.{agent_of, agent_count, list_lawful, limits_apart, none_free}
+use Rattle.eating_laws.proofs.Limits.{agent_count, limits_apart, none_free}
 use Rattle.eating_laws.proofs.Shares.{share_past, share_off, row_share, sum_is_eaten, eaten_within, eaten_whole}
 
 -- what each agent has of each column in the end, by cells
 abbrev pub share_of : Market → ℕ → List ℕ → Cell → ℕ
 share_of market D e c = share market D e c.agent c.object
-
-sum_of_map : {X Y : Type 0} (f : Y → ℕ) (g : X → Y) (xs : List X) → sum_by f (map g xs) ≡ sum_by (λ x. f (g x)) xs
-sum_of_map f g [] = refl
-sum_of_map f g (x ∷ xs) = omega (arith, sum_by-cons f (g x) (map g xs), sum_by-cons (λ y. f (g y)) x xs, sum_of_map f g xs)
 
 list_known : (n : ℕ) (list : List ℕ) → AllByRecursion (λ a. a ≤ n) list → AllByRecursion (λ a. a < n + 1) list
 list_known n [] h = tt
@@ -38,7 +34,7 @@ rows p D e h i l =
     let none = length p.objects in
     let lawful = list_lawful p i h l in
     let w : Agent = record { demand = demand_at p i; list = list_at p i } in
-    sum_of_map (share_of (market_of p) D e) (cell_of i) (range_with_len 0 (column_count p))
+    sum_mapped (share_of (market_of p) D e) (cell_of i) (range_with_len 0 (column_count p))
     ∙ row_share (market_of p) D e i (column_count p) (length (list_at p i) - 1) none w (agent_of p i h l)
     (list_known none (list_at p i) (recursion_from_All (λ a. a ≤ none) (list_at p i) lawful.known)) lawful.last
     (full_never D (limits_of p) e i none (recursion_from_All (λ (s : Limit). holds s.cells (cell_of i none) ≡ false) (limits_of p) (none_free p i h)))

@@ -1,10 +1,10 @@
 -- What one agent has of the columns of its list.
-use Rattle.std.proofs.Common.{◌≡◌, ℕ, suc, zero, ◌+◌, ◌-◌, ◌*◌, ◌<◌, ◌≤◌, List, [], ◌∷◌, true, false, cond, length, refl, ap, ◌∙◌, arith, inl, inr}
+use Rattle.std.proofs.Common.{◌≡◌, ℕ, suc, zero, ◌+◌, ◌-◌, ◌*◌, ◌<◌, List, [], ◌∷◌, true, false, cond, length, refl, ap, ◌∙◌, arith}
 use Rattle.std.specs.Prelude.{min, max, nat_eq, take, sum_by, ◌==◌, ◌||◌, slice_index}
-use Rattle.std.specs.List.{AllByRecursion, IsDistinct, range_with_len}
+use Rattle.std.specs.List.{AllByRecursion, IsDistinct}
 use Rattle.std.specs.Set.{is_member}
 use Rattle.std.proofs.Math.Nat.{mul-sub}
-use Rattle.std.proofs.lemmas.Bool.{or_left, or_right, or_from, or_parts, eq-eqb, ne_eqb, cases_order}
+use Rattle.std.proofs.lemmas.Bool.{or_left, or_from, or_parts, eq-eqb}
 use Rattle.std.proofs.lemmas.List.Sums.{sum_by_more}
 use Rattle.definitions.specs.Eating.{eaten_along, reached}
 use Rattle.definitions.proofs.Members.{number_test, distinct_first, distinct_rest, distinct_none, distinct_more}
@@ -24,24 +24,6 @@ sum_columns d full from t (a ∷ list) xs h =
     sum_of_sums (λ x. cond (a == x) (d * n) 0) (λ x. eaten_along d full (λ b. b == x) m t list) xs in
     let here : sum_by (λ x. cond (a == x) (d * n) 0) xs ≡ cond (is_member nat_eq xs a) (d * n) 0 = single nat_eq number_test (λ _. d * n) a xs h in
     omega (arith, split, here, sum_columns d full m t list xs h)
-
--- a member is found, and nothing else
-pub member_of_range : (s n x : ℕ) → s ≤ x → x < s + n → is_member nat_eq (range_with_len s n) x ≡ true
-member_of_range s zero x p q = absurd (omega arith)
-member_of_range s (suc n) x p q = elim (cases_order x s) [
-  | inl same ↦ or_left (nat_eq x s) (is_member nat_eq (range_with_len (s + 1) n) x) (eq-eqb x s same)
-  | inr (inl less) ↦ absurd (omega arith)
-  | inr (inr more) ↦ or_right (nat_eq x s) (is_member nat_eq (range_with_len (s + 1) n) x) (member_of_range (s + 1) n x (omega arith) (omega arith))
-]
-
-below_range : (s n x : ℕ) → x < s → is_member nat_eq (range_with_len s n) x ≡ false
-below_range s zero x p = refl
-below_range s (suc n) x p =
-    or_from (nat_eq x s) (is_member nat_eq (range_with_len (s + 1) n) x) (ne_eqb x s (λ e. absurd (omega arith))) (below_range (s + 1) n x (omega arith))
-
-pub distinct_range : (s n : ℕ) → IsDistinct nat_eq (range_with_len s n)
-distinct_range s zero = distinct_none nat_eq
-distinct_range s (suc n) = distinct_more nat_eq s (range_with_len (s + 1) n) (below_range (s + 1) n s (omega arith)) (distinct_range (s + 1) n)
 
 pub member_take : (k : ℕ) (list : List ℕ) (a : ℕ) → is_member nat_eq list a ≡ false → is_member nat_eq (take k list) a ≡ false
 member_take zero list a h = refl

@@ -10,11 +10,12 @@ use Rattle.definitions.specs.Values.{Limit, ProblemValue, IsProblem, market_of, 
 use Rattle.definitions.specs.Eating.{full_at, reached, eaten_along, share, IsAssignmentOf}
 use Rattle.definitions.specs.Fairness.{IsAlike, Envies}
 use Rattle.definitions.proofs.Sums.{sum_same}
+use Rattle.definitions.proofs.Problems.{agent_of, list_lawful}
 use Rattle.eating_laws.specs.Shares.{IsMatrixFor}
 use Rattle.eating_laws.proofs.Line.{along_within, reached_from}
 use Rattle.eating_laws.proofs.Full.{full_le, full_alike, full_never}
 use Rattle.eating_laws.proofs.Columns.{sum_columns, distinct_take, member_take}
-use Rattle.eating_laws.proofs.Limits.{agent_of, list_lawful, none_free}
+use Rattle.eating_laws.proofs.Limits.{none_free}
 use Rattle.eating_laws.proofs.Shares.{share_is, prefix_share}
 use Rattle.eating_laws.proofs.Assignment.{units_are_shares}
 

@@ -7,10 +7,7 @@ use Rattle.std.proofs.lemmas.List.Elements.{All-append, All-map, All-same, All-f
 use Rattle.definitions.specs.Sets.{set_sum, row_cells, SetValue, ScaledValue, units_of, IsSetFeasible, IsFeasible}
 use Rattle.definitions.specs.Values.{Limit, ProblemValue, IsProblem, IsStatedSet, stated_sets, limits_of, row_sets, column_count, capped_limits, market_agents}
 use Rattle.definitions.specs.Assignment.{IsRandomAssignment}
-
--- the limit of a stated set
-abbrev limit_of : SetValue → Limit
-limit_of s = record { ceiling = s.ceiling; cells = s.cells }
+use Rattle.definitions.proofs.Problems.{limit_of}
 
 -- a property of each limit is one of each stated set's
 stated_each : (P : Limit → Type 0) (p : ProblemValue) → All P (limits_of p) → All (λ (s : SetValue). P (limit_of s)) (stated_sets p)

@@ -1,43 +1,27 @@
 -- The agents and the limits of the market of a lawful problem.
-use Rattle.std.proofs.Common.{◌≡◌, ℕ, suc, zero, ◌+◌, ◌-◌, ◌<◌, ◌≤◌, List, [], ◌∷◌, Bool, true, false, cond, length, map, get_or, Option, Some, refl, ap, sym, ◌∙◌, arith, subst}
-use Rattle.std.specs.Prelude.{sum, sum_by, All, nat_eq, nat_le, slice_get, slice_index, unwrap_or, ◌==◌}
+use Rattle.std.proofs.Common.{◌≡◌, ℕ, suc, zero, ◌+◌, ◌-◌, ◌<◌, ◌≤◌, List, [], ◌∷◌, Bool, true, false, cond, length, map, get_or, Some, refl, ap, sym, ◌∙◌, arith, subst}
+use Rattle.std.specs.Prelude.{sum, sum_by, All, nat_eq, nat_le, slice_get, ◌==◌}
 use Rattle.std.specs.List.{AllByRecursion, IsDistinct}
 use Rattle.std.specs.Set.{is_member}
-use Rattle.std.proofs.lemmas.Bool.{and_right, or_from, both_ways, false_from_ne_true, eqb-true, ne_eqb}
-use Rattle.std.proofs.lemmas.Option.{get_or_from_slice_get, slice_get_within, slice_get-get_or}
+use Rattle.std.proofs.lemmas.Bool.{and_right, or_from, both_ways, false_from_ne_true, eqb-true}
+use Rattle.std.proofs.lemmas.Option.{get_or_from_slice_get, slice_get_within}
 use Rattle.std.proofs.lemmas.List.Elements.{All-append, All-map, All-take, All-weaker, All-from_recursion, recursion_from_All}
 use Rattle.definitions.specs.declared.Cell.{Cell}
 use Rattle.definitions.specs.Sets.{cell_of, same_cell, holds, SetValue, IsQuotaSet}
-use Rattle.definitions.specs.Values.{Limit, Agent, ProblemValue, IsProblem, IsListUpTo, IsStatedSet, but_last, capped_limits, market_agents, market_of, limits_of, stated_sets, list_at, demand_at}
+use Rattle.definitions.specs.Values.{Limit, Agent, ProblemValue, IsProblem, IsListUpTo, IsStatedSet, but_last, capped_limits, market_agents, market_of, limits_of, stated_sets}
 use Rattle.std.proofs.lemmas.List.Sums.{sum_by-cons, get_or-le-sum_by}
 use Rattle.definitions.specs.Eating.{demand_sum}
 use Rattle.definitions.proofs.Members.{number_test, distinct_first, distinct_rest, distinct_none, distinct_more, member_at, rising_distinct}
-
-agent_within : (demands : List ℕ) (lists : List (List ℕ)) (i : ℕ) → i < length demands → i < length lists
-    → slice_get (market_agents demands lists) i ≡ Some (record { demand = slice_index demands i; list = unwrap_or (slice_get lists i) [] })
-agent_within [] lists i l k = absurd (omega arith)
-agent_within (d ∷ demands) [] i l k = absurd (omega arith)
-agent_within (d ∷ demands) (list ∷ lists) zero l k = refl
-agent_within (d ∷ demands) (list ∷ lists) (suc i) l k = agent_within demands lists i (omega arith) (omega arith)
+use Rattle.definitions.proofs.Problems.{none_held}
 
 agents_many : (demands : List ℕ) (lists : List (List ℕ)) → length demands ≡ length lists → length (market_agents demands lists) ≡ length demands
 agents_many [] lists h = refl
 agents_many (d ∷ demands) [] h = absurd (omega arith)
 agents_many (d ∷ demands) (list ∷ lists) h = ap suc (agents_many demands lists (omega arith))
 
--- the agents of the market are the problem's, with their demands and lists
-pub agent_of : (p : ProblemValue) (i : ℕ) → IsProblem p → i < length p.agents → slice_get (market_of p).agents i ≡ Some (record { demand = demand_at p i; list = list_at p i })
-agent_of p i h l = agent_within p.demands p.lists i (omega (arith, h.demands_many)) (omega (arith, h.lists_many))
-
+-- the market has the problem's agents
 pub agent_count : (p : ProblemValue) → IsProblem p → length (market_of p).agents ≡ length p.agents
 agent_count p h = agents_many p.demands p.lists (h.demands_many ∙ sym h.lists_many) ∙ h.demands_many
-
--- each agent has a lawful list
-pub list_lawful : (p : ProblemValue) (i : ℕ) → IsProblem p → i < length p.agents → IsListUpTo (length p.objects) (list_at p i)
-list_lawful p i h l =
-    let inside : i < length p.lists = omega (arith, h.lists_many) in
-    let is : get_or p.lists i [] ≡ list_at p i = sym (ap (λ (o : Option (List ℕ)). unwrap_or o []) (slice_get-get_or p.lists i [] inside)) in
-    subst (IsListUpTo (length p.objects)) is (h.lists i [] inside)
 
 -- a property of the limit of each capped cell
 capped_each : (P : Limit → Type 0) (Q : ℕ → Type 0) → ((i a : ℕ) → Q a → P (record { ceiling = 1; cells = cell_of i a ∷ [] })) → (i : ℕ) (agents : List Agent)
@@ -102,13 +86,6 @@ before_none none [] h = tt
 before_none none (a ∷ list) h =
     let last : length (a ∷ list) - 1 ≡ length list = omega arith in
     before_last (a ∷ list) (length list) none refl h.apart (subst (λ n. slice_get (a ∷ list) n ≡ Some none) last h.last)
-
--- a set whose columns are all below n holds no cell of column n
-none_held : (i n : ℕ) (cells : List Cell) → AllByRecursion (λ c. c.object < n) cells → holds cells (cell_of i n) ≡ false
-none_held i n [] h = refl
-none_held i n (c ∷ cells) h =
-    or_from (same_cell (cell_of i n) c) (holds cells (cell_of i n)) (and_right (i == c.agent) (n == c.object) (ne_eqb n c.object (λ e. (let l : c.object < n = h.0 in absurd (omega arith)))))
-    (none_held i n cells h.1)
 
 -- no limit holds a cell of the column of `none`
 pub none_free : (p : ProblemValue) (i : ℕ) → IsProblem p → All (λ s. holds s.cells (cell_of i (length p.objects)) ≡ false) (limits_of p)

@@ -11,8 +11,9 @@ use Rattle.definitions.specs.Values.{Limit, Agent, Market}
 use Rattle.definitions.specs.Eating.{full_at, eaten_along, eaten_from, eaten_by, reached, share, moment_at, slot_cells, slot_ceiling, no_agent, IsEatingTable}
 use Rattle.definitions.proofs.Members.{cell_test}
 use Rattle.definitions.proofs.Sums.{sum_same, sum_zero, sum_of_sums, single}
+use Rattle.definitions.proofs.Ranges.{member_of_range, distinct_range}
 use Rattle.eating_laws.proofs.Line.{along_same, along_all, reached_from}
-use Rattle.eating_laws.proofs.Columns.{sum_columns, member_of_range, distinct_range, column_off, front_sum, at_place}
+use Rattle.eating_laws.proofs.Columns.{sum_columns, column_off, front_sum, at_place}
 use Rattle.eating_laws.proofs.Sums.{eaten_by_stays}
 use Rattle.eating_laws.proofs.Full.{full_below}
 

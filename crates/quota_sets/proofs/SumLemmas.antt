@@ -9,6 +9,7 @@ use Rattle.std.proofs.Math.Nat.{mul-le-mul_right}
 use Rattle.definitions.specs.declared.Cell.{Cell}
 use Rattle.definitions.specs.Sets.{SetValue, ScaledValue, IsBefore, IsRising, IsCellWithin, IsInRange, IsQuotaSet, IsScaledMatrix, cell_index, unit_at, units_of, set_sum}
 use Rattle.definitions.proofs.Sums.{unit_at_within}
+use Rattle.definitions.proofs.Members.{rising_rest}
 
 -- a later cell stands later in the list
 index_rises : (columns : ℕ) (a b : Cell) → a.object < columns → IsBefore a b → cell_index columns a < cell_index columns b
@@ -39,9 +40,6 @@ unit_and_rest units k = elim (cases_lt k (length units)) [
       omega (arith, none, rest_falls units k (k + 1) (omega arith))
 ]
 
-rising_tail : (c : Cell) (cells : List Cell) → IsRising (c ∷ cells) → IsRising cells
-rising_tail c cells rises i j d l m = rises (suc i) (suc j) d (omega arith) (omega arith)
-
 after_head : (c : Cell) (cells : List Cell) → IsRising (c ∷ cells) → All (IsBefore c) cells
 after_head c cells rises k d l = rises 0 (suc k) d (omega arith) (omega arith)
 
@@ -53,7 +51,7 @@ sum_from agents columns units (c ∷ cells) k rises inside from =
     let here = All-head (IsCellWithin agents columns) c cells inside in
     let later : All (λ b. cell_index columns c + 1 ≤ cell_index columns b) cells =
     (λ j d l. let more = index_rises columns c (get_or cells j d) here.1 (after_head c cells rises j d l) in omega (arith, more)) in
-    let rest = sum_from agents columns units cells (cell_index columns c + 1) (rising_tail c cells rises) (All-tail (IsCellWithin agents columns) c cells inside) later in
+    let rest = sum_from agents columns units cells (cell_index columns c + 1) (rising_rest c cells rises) (All-tail (IsCellWithin agents columns) c cells inside) later in
     let unit = unit_at_within columns units c here.1 in
     let low = All-head (λ b. k ≤ cell_index columns b) c cells from in
     omega (arith, sum_by-cons (unit_at columns units) c cells, unit, rest, unit_and_rest units (cell_index columns c), rest_falls units k (cell_index columns c) low)

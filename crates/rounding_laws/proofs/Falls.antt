@@ -5,9 +5,9 @@ use Rattle.std.proofs.lemmas.List.Sums.{sum_by-cons}
 use Rattle.std.proofs.lemmas.Option.{slice_get_within, get_or_from_slice_get}
 use Rattle.definitions.specs.declared.Cell.{Cell}
 use Rattle.definitions.specs.Rounding.{is_fractional, fractional_count}
-use Rattle.rounding_laws.specs.Remainders.{IsGreatestTake}
+use Rattle.rounding_laws.specs.Remainders.{IsGreatestTake, IsTight}
 use Rattle.rounding_laws.proofs.Edges.{no_more_fractional, less_fractional}
-use Rattle.rounding_laws.proofs.Taken.{sum_at, taken_cell, taken_set, IsTight, tight_of_greatest}
+use Rattle.rounding_laws.proofs.Taken.{sum_at, taken_cell, taken_set, tight_of_greatest}
 use Rattle.rounding_laws.proofs.Remainder.{taken_found}
 
 -- terms that are no larger, place by place, have a sum that is no larger

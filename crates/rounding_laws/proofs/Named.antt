@@ -1,9 +1,8 @@
 -- Tickets count pieces.
-use Rattle.std.proofs.Common.{◌≡◌, ℕ, suc, zero, ◌+◌, ◌*◌, ◌-◌, ◌<◌, ◌≤◌, List, [], ◌∷◌, map, length, get_or, cond, refl, sym, ap, ◌∙◌, arith}
+use Rattle.std.proofs.Common.{◌≡◌, ℕ, suc, zero, ◌+◌, ◌*◌, ◌-◌, ◌<◌, List, [], ◌∷◌, map, length, get_or, cond, refl, sym, ap, ◌∙◌, arith}
 use Rattle.std.specs.Prelude.{sum_by, sum, count_by, slice_get, slice_index, ◌==◌}
 use Rattle.std.specs.List.{range_with_len}
 use Rattle.std.specs.Option.{option_map_or}
-use Rattle.std.proofs.lemmas.Bool.{lt-ltb, le-ltb}
 use Rattle.std.proofs.lemmas.Bool.Decides.{nat_tests}
 use Rattle.std.proofs.lemmas.List.Sums.{sum_by-cons, sum-map}
 use Rattle.definitions.specs.declared.Cell.{Cell}
@@ -12,7 +11,9 @@ use Rattle.definitions.specs.Values.{PieceValue}
 use Rattle.definitions.specs.Pieces.{WeightedMatrix, Decomposes, weighted, weighted_pieces, piece_count, matrix_of}
 use Rattle.definitions.specs.Tickets.{piece_of, named_units}
 use Rattle.definitions.proofs.Sums.{sum_same, unit_at_within}
-use Rattle.rounding_laws.proofs.Places.{matrix_at, index_within}
+use Rattle.definitions.proofs.Cells.{index_within}
+use Rattle.definitions.proofs.Tickets.{piece_here, piece_later}
+use Rattle.rounding_laws.proofs.Places.{matrix_at}
 
 -- weight times value, over the pieces from k on
 abbrev weighted_from : List ℕ → (ℕ → ℕ) → ℕ
@@ -44,16 +45,8 @@ range_flat f v s (suc n) e =
     let more : suc n * v ≡ v + n * v = grind arith in
     omega (arith, sum_by-cons f s (range_with_len (s + 1) n), e s (omega arith), range_flat f v (s + 1) n (λ t h. e t (omega arith)), more)
 
-in_first : (w : ℕ) (ws : List ℕ) (t : ℕ) → t < w → piece_of (w ∷ ws) t ≡ 0
-unfolding piece_of
-in_first w ws t h = ap (λ b. cond b 0 (suc (piece_of ws (t - w)))) (lt-ltb t w h)
-
 in_later : (w : ℕ) (ws : List ℕ) (t : ℕ) → piece_of (w ∷ ws) (t + w) ≡ suc (piece_of ws t)
-unfolding piece_of
-in_later w ws t =
-    let h : w ≤ t + w = omega arith in
-    let e : t + w - w ≡ t = omega arith in
-    ap (λ b. cond b 0 (suc (piece_of ws (t + w - w)))) (le-ltb (t + w) w h) ∙ ap (λ n. suc (piece_of ws n)) e
+in_later w ws t = let e : t + w - w ≡ t = omega arith in piece_later w ws (t + w) (omega arith) ∙ ap (λ n. suc (piece_of ws n)) e
 
 -- what tickets name adds up, piece by piece, to weight times value
 tickets_sum : (ws : List ℕ) (v : ℕ → ℕ) → sum_by (λ t. v (piece_of ws t)) (range_with_len 0 (sum ws)) ≡ weighted_from ws v
@@ -62,7 +55,7 @@ tickets_sum (w ∷ ws) v =
     let f : ℕ → ℕ = λ t. v (piece_of (w ∷ ws) t) in
     let total : sum (w ∷ ws) ≡ w + sum ws = sum_by-cons (λ (x : ℕ). x) w ws in
     let parts : sum_by f (range_with_len 0 (w + sum ws)) ≡ sum_by f (range_with_len 0 w) + sum_by f (range_with_len (0 + w) (sum ws)) = range_parts f 0 w (sum ws) in
-    let first : sum_by f (range_with_len 0 w) ≡ w * v 0 = range_flat f (v 0) 0 w (λ t h. ap v (in_first w ws t (omega arith))) in
+    let first : sum_by f (range_with_len 0 w) ≡ w * v 0 = range_flat f (v 0) 0 w (λ t h. ap v (piece_here w ws t (omega arith))) in
     let later : sum_by f (range_with_len (0 + w) (sum ws)) ≡ sum_by (λ t. v (suc (piece_of ws t))) (range_with_len 0 (sum ws)) =
     range_shift f 0 w (sum ws) ∙ sum_same (λ t. f (t + w)) (λ t. v (suc (piece_of ws t))) (range_with_len 0 (sum ws)) (λ t. ap v (in_later w ws t)) in
     ap (λ n. sum_by f (range_with_len 0 n)) total ∙ omega (arith, parts, first, later, tickets_sum ws (λ k. v (suc k)))

@@ -4,9 +4,9 @@ use Rattle.std.specs.Prelude.{◌≢◌, slice_get}
 use Rattle.std.proofs.lemmas.Option.{slice_get_within, get_or_from_slice_get}
 use Rattle.definitions.specs.declared.Cell.{Cell}
 use Rattle.definitions.specs.Rounding.{Rounds, IsRounded}
-use Rattle.rounding_laws.specs.Remainders.{IsGreatestTake}
+use Rattle.rounding_laws.specs.Remainders.{IsGreatestTake, IsTight}
 use Rattle.rounding_laws.proofs.Edges.{IsTakenAt, keeps_rounding, rounds_no_more}
-use Rattle.rounding_laws.proofs.Taken.{sum_at, taken_cell, taken_set, IsTight, tight_of_greatest}
+use Rattle.rounding_laws.proofs.Taken.{sum_at, taken_cell, taken_set, tight_of_greatest}
 
 -- the edge of a set that has this number
 pub taken_found : (columns d w d' : ℕ) (sets : List (List Cell)) (y m y' : List ℕ) → IsGreatestTake columns sets y d m w y' d' → 1 ≤ d'

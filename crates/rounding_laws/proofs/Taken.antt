@@ -1,6 +1,6 @@
 -- A piece is taken off, at each cell and set; and where the gap is all that is left.
-use Rattle.std.proofs.Common.{◌≡◌, ℕ, ◌+◌, ◌-◌, ◌*◌, ◌<◌, ◌≤◌, ◌⊎◌, suc, zero, List, [], length, get_or, Some, arith, inl, inr, subst, ap, below_more, Bool, true, false, cond}
-use Rattle.std.specs.Prelude.{slice_get, slice_index, sum_by, nat_lt}
+use Rattle.std.proofs.Common.{◌≡◌, ℕ, ◌+◌, ◌-◌, ◌*◌, ◌<◌, ◌≤◌, ◌⊎◌, suc, zero, List, [], length, get_or, arith, inl, inr, subst, ap, below_more, Bool, true, false, cond}
+use Rattle.std.specs.Prelude.{sum_by, nat_lt}
 use Rattle.std.proofs.lemmas.Bool.{cases_lt}
 use Rattle.std.proofs.lemmas.List.{get_or_past, get_or_default}
 use Rattle.std.proofs.lemmas.Option.{slice_get-get_or, slice_get_within, get_or_from_slice_get}
@@ -8,7 +8,7 @@ use Rattle.definitions.specs.declared.Cell.{Cell}
 use Rattle.definitions.specs.Sets.{set_sum, unit_at, cell_index}
 use Rattle.definitions.specs.Rounding.{Rounds, IsRounded, Allows, gap}
 use Rattle.definitions.proofs.Sums.{sum_same, sum_of_sums, sum_scaled}
-use Rattle.rounding_laws.specs.Remainders.{AllAllow, IsGreatestTake}
+use Rattle.rounding_laws.specs.Remainders.{AllAllow, IsGreatestTake, IsTight}
 use Rattle.rounding_laws.proofs.Allowed.{allows_of_gap, gap_of_allows}
 use Rattle.rounding_laws.proofs.Edges.{IsTakenAt}
 
@@ -67,12 +67,6 @@ module _ (columns d w d' : ℕ) (sets : List (List Cell)) (y m y' : List ℕ) (t
     rest = sum_rest columns w y m y' t.rounds.shape t.shape t.rest (get_or sets k s);
     near = near_left (sum_at columns y (get_or sets k s)) (sum_at columns m (get_or sets k s)) (t.rounds.sums k s h) (t.allowed.sums k s h);
   }
-
--- at some cell or set the gap and the weight are d
-abbrev pub IsTight : ℕ → List (List Cell) → List ℕ → ℕ → List ℕ → ℕ → Type 0
-IsTight columns sets y d m w =
-    ((i : ℕ) × (i < length y) × (gap (slice_index m i) (slice_index y i) d + w ≡ d))
-    ⊎ ((k : ℕ) × (s : List Cell) × (slice_get sets k ≡ Some s) × (gap (sum_at columns m s) (sum_at columns y s) d + w ≡ d))
 
 find_above : (g : ℕ → ℕ) (bound n : ℕ) → ((i : ℕ) → i < n → g i ≤ bound) ⊎ ((i : ℕ) × (i < n) × (bound < g i))
 find_above g bound zero = inl (λ i h. absurd (omega arith))

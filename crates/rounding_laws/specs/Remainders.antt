@@ -1,8 +1,8 @@
 -- What the remainder keeps when a piece is taken off with the greatest weight. The project's own.
-use Rattle.std.specs.Prelude.{◌≡◌, ◌≢◌, ℕ, ◌+◌, ◌*◌, ◌<◌, ◌≤◌, List, length, slice_index, All}
+use Rattle.std.specs.Prelude.{◌≡◌, ◌≢◌, ℕ, ◌+◌, ◌*◌, ◌<◌, ◌≤◌, ◌⊎◌, List, length, Some, slice_get, slice_index, All}
 use Rattle.definitions.specs.declared.Cell.{Cell}
 use Rattle.definitions.specs.Sets.{set_sum, unit_at}
-use Rattle.definitions.specs.Rounding.{Rounds, Allows, fractional_count}
+use Rattle.definitions.specs.Rounding.{Rounds, Allows, fractional_count, gap}
 
 -- each cell and set allows the weight w of the piece m
 pub record AllAllow (columns : ℕ) (sets : List (List Cell)) (y : List ℕ) (d : ℕ) (m : List ℕ) (w : ℕ) : Type 0 where
@@ -17,6 +17,12 @@ pub record IsGreatestTake (columns : ℕ) (sets : List (List Cell)) (y : List �
   pub rest : (i : ℕ) → i < length y → slice_index y' i + w * slice_index m i ≡ slice_index y i
   pub allowed : AllAllow columns sets y d m w
   pub greatest : (v : ℕ) → v ≤ d → AllAllow columns sets y d m v → v ≤ w
+
+-- a weight of w is tight: at some cell or set the gap and the weight make up all that is left
+abbrev pub IsTight : ℕ → List (List Cell) → List ℕ → ℕ → List ℕ → ℕ → Type 0
+IsTight columns sets y d m w =
+    ((i : ℕ) × (i < length y) × (gap (slice_index m i) (slice_index y i) d + w ≡ d))
+    ⊎ ((k : ℕ) × (s : List Cell) × (slice_get sets k ≡ Some s) × (gap (set_sum (unit_at columns m) s) (set_sum (unit_at columns y) s) d + w ≡ d))
 
 -- what rounds the remainder rounds the matrix, and is another matrix than the piece
 abbrev pub RemainderRoundsWhole : Type 0

@@ -1,20 +1,12 @@
 -- The piece of a ticket, one piece at a time.
-use Rattle.std.proofs.Common.{◌≡◌, ℕ, suc, ◌+◌, ◌-◌, ◌<◌, ◌≤◌, true, false, cond, nat_lt, List, ◌∷◌, length, sum, get_or, drop, sym, ◌∙◌, ap, arith}
-use Rattle.std.proofs.lemmas.Bool.Decides.{nat_tests}
+use Rattle.std.proofs.Common.{◌≡◌, ℕ, suc, ◌+◌, ◌-◌, ◌<◌, ◌≤◌, List, length, sum, get_or, drop, sym, ◌∙◌, ap, arith}
 use Rattle.std.proofs.lemmas.List.{get_or-map}
 use Rattle.std.proofs.Math.Seq.{drop-cons}
 use Rattle.std.proofs.lemmas.List.Sums.{sum_by-drop_more}
 use Rattle.definitions.specs.Tickets.{piece_of}
 use Rattle.definitions.specs.declared.Piece.{Piece}
+use Rattle.definitions.proofs.Tickets.{piece_here, piece_later}
 use Rattle.seed_draw.specs.Weights.{weights_of}
-
-piece_here : (w : ℕ) (ws : List ℕ) (t : ℕ) → t < w → piece_of (w ∷ ws) t ≡ 0
-unfolding piece_of
-piece_here w ws t h = let e : nat_lt t w ≡ true = grind (arith, nat_tests) in ap (λ b. cond b 0 (suc (piece_of ws (t - w)))) e
-
-piece_later : (w : ℕ) (ws : List ℕ) (t : ℕ) → w ≤ t → piece_of (w ∷ ws) t ≡ suc (piece_of ws (t - w))
-unfolding piece_of
-piece_later w ws t h = let e : nat_lt t w ≡ false = grind (arith, nat_tests) in ap (λ b. cond b 0 (suc (piece_of ws (t - w)))) e
 
 -- the piece at index i has what is left of the ticket
 pub named_here : (ws : List ℕ) (i t : ℕ) → i < length ws → t < get_or ws i 0 → piece_of (drop i ws) t ≡ 0

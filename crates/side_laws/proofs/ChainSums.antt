@@ -9,11 +9,12 @@ use Rattle.definitions.specs.Sets.{SetValue, FamilyValue, IsFamily, same_cell, h
 use Rattle.definitions.specs.Hierarchies.{IsHolder, TreesValue, AreTreesOf, deepest_at, chain_of}
 use Rattle.definitions.proofs.Members.{number_test, cell_test, member_place}
 use Rattle.definitions.proofs.Sums.{sum_same_all}
+use Rattle.definitions.proofs.Ranges.{member_of_range, range_of_member, distinct_range}
+use Rattle.definitions.proofs.Cells.{within_is_member, all_within, cells_distinct}
+use Rattle.definitions.proofs.Families.{cells_of_set}
 use Rattle.side_laws.specs.Sums.{is_holder, holders, least_over, AlongChain}
-use Rattle.side_laws.proofs.Chains.{member_of_range}
-use Rattle.side_laws.proofs.Cells.{range_of_member, distinct_range, within_is_member, all_within, cells_distinct}
 use Rattle.side_laws.proofs.Members.{same_tests, sum_within, sum_of_members, sum_of_filter, least_of_members, member_of_filter, distinct_filter}
-use Rattle.side_laws.proofs.Order.{cells_of_set, set_distinct}
+use Rattle.side_laws.proofs.Order.{set_distinct}
 use Rattle.side_laws.proofs.Trees.{chain_holds, cell_chain_distinct}
 
 -- the holders by number are the holders

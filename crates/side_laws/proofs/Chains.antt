@@ -1,23 +1,15 @@
 -- The way up a table of parents, over any order in which each parent comes after its set.
-use Rattle.std.proofs.Common.{◌≡◌, ℕ, zero, suc, ◌+◌, ◌-◌, ◌<◌, ◌≤◌, ◌⊎◌, ◌↔◌, ◌∙◌, List, [], ◌∷◌, ◌++◌, Option, Some, None, Bool, true, false, cond, get_or, refl, sym, ap, subst, inl, inr, arith}
+use Rattle.std.proofs.Common.{◌≡◌, ℕ, zero, suc, ◌-◌, ◌<◌, ◌≤◌, ◌⊎◌, ◌↔◌, ◌∙◌, List, [], ◌∷◌, ◌++◌, Option, Some, None, Bool, true, false, cond, get_or, refl, sym, ap, subst, inl, inr, arith}
 use Rattle.std.specs.Prelude.{nat_eq, count_by}
 use Rattle.std.specs.List.{IsDistinct, range_with_len}
 use Rattle.std.specs.Set.{is_member}
-use Rattle.std.proofs.lemmas.Bool.{both_ways, or_cases, or_left, or_right, eqb-true, eq-eqb, cases_order, false_from_ne_true}
+use Rattle.std.proofs.lemmas.Bool.{both_ways, or_cases, or_left, or_right, eqb-true, eq-eqb, false_from_ne_true}
 use Rattle.std.proofs.lemmas.Option.{same_Some}
 use Rattle.std.proofs.lemmas.List.Sums.{sum_by-cons, count_by-le-length}
 use Rattle.std.proofs.lemmas.List.FromFn.{length-range_with_len}
 use Rattle.definitions.specs.Hierarchies.{climb}
 use Rattle.definitions.proofs.Members.{distinct_none, distinct_more}
-
--- each number of a range is a member of it
-pub member_of_range : (s n x : ℕ) → s ≤ x → x < s + n → is_member nat_eq (range_with_len s n) x ≡ true
-member_of_range s zero x p q = absurd (omega arith)
-member_of_range s (suc n) x p q = elim (cases_order x s) [
-  | inl same ↦ or_left (nat_eq x s) (is_member nat_eq (range_with_len (s + 1) n) x) (eq-eqb x s same)
-  | inr (inl less) ↦ absurd (omega arith)
-  | inr (inr more) ↦ or_right (nat_eq x s) (is_member nat_eq (range_with_len (s + 1) n) x) (member_of_range (s + 1) n x (omega arith) (omega arith))
-]
+use Rattle.definitions.proofs.Ranges.{member_of_range}
 
 bit_mono : (p q : Bool) → (p ≡ true → q ≡ true) → cond {A = ℕ} p 1 0 ≤ cond {A = ℕ} q 1 0
 bit_mono true true f = omega arith

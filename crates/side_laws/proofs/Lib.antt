@@ -1,4 +1,3 @@
-pub mod Cells
 pub mod ChainSums
 pub mod Chains
 pub mod Members

@@ -1,10 +1,10 @@
 -- Lists with the same members and no repeats: equal sums, equal least numbers; members of a filter.
-use Rattle.std.proofs.Common.{◌≡◌, ℕ, ◌+◌, ◌≤◌, ◌∙◌, List, [], ◌∷◌, ◌++◌, Bool, true, false, ◌||◌, ◌&&◌, cond, refl, sym, ap, inl, inr, arith}
+use Rattle.std.proofs.Common.{◌≡◌, ℕ, ◌+◌, ◌≤◌, ◌∙◌, List, [], ◌∷◌, Bool, true, false, ◌&&◌, cond, refl, sym, ap, inl, inr, arith}
 use Rattle.std.specs.Prelude.{nat_eq, min, filter, sum_by}
 use Rattle.std.specs.List.{AllByRecursion, IsDistinct}
 use Rattle.std.specs.Set.{is_member}
 use Rattle.std.specs.Cmp.{IsEquivalence}
-use Rattle.std.proofs.lemmas.Bool.{both_ways, or_cases, or_left, or_right, or_from, and_left, eqb-true, false_from_ne_true}
+use Rattle.std.proofs.lemmas.Bool.{both_ways, or_cases, or_left, or_right, and_left, eqb-true}
 use Rattle.std.proofs.lemmas.List.Elements.{recursion_from_All}
 use Rattle.std.proofs.lemmas.List.Sums.{sum_by-cons}
 use Rattle.std.proofs.lemmas.Map.Made.{is_member-filter}
@@ -63,24 +63,6 @@ module _ {X : Type 0} (eq : X → X → Bool) (t : IsEqualityTest eq) where
   distinct_filter p [] d = distinct_none eq
   distinct_filter p (x ∷ xs) d =
       distinct_step p x xs (p x) (member_of_filter p xs x ∙ and_left (is_member eq xs x) (p x) (distinct_first eq x xs d)) (distinct_filter p xs (distinct_rest eq x xs d))
-
-  -- the members of two lists end to end
-  pub member_append : (xs ys : List X) (x : X) → is_member eq (xs ++ ys) x ≡ (is_member eq xs x || is_member eq ys x)
-  member_append [] ys x = refl
-  member_append (y ∷ xs) ys x = ap (λ b. eq x y || b) (member_append xs ys x) ∙ or_assoc (eq x y) (is_member eq xs x) (is_member eq ys x)
-    where
-      or_assoc : (a b c : Bool) → (a || (b || c)) ≡ ((a || b) || c)
-      or_assoc true b c = refl
-      or_assoc false b c = refl
-
-  -- two lists without repeats and without a common member have none end to end
-  pub distinct_append : (xs ys : List X) → IsDistinct eq xs → IsDistinct eq ys → ((x : X) → is_member eq xs x ≡ true → is_member eq ys x ≡ true → ⊥) → IsDistinct eq (xs ++ ys)
-  distinct_append [] ys dx dy apart = dy
-  distinct_append (x ∷ xs) ys dx dy apart =
-      let off : is_member eq ys x ≡ false = false_from_ne_true (is_member eq ys x) (apart x (or_left (eq x x) (is_member eq xs x) (t.self x))) in
-      distinct_more eq x (xs ++ ys)
-      (member_append xs ys x ∙ or_from (is_member eq xs x) (is_member eq ys x) (distinct_first eq x xs dx) off)
-      (distinct_append xs ys (distinct_rest eq x xs dx) dy (λ y m. apart y (or_right (eq y x) (is_member eq xs y) m)))
 
 -- the sum over what passes
 pub sum_of_filter : {X : Type 0} (f : X → ℕ) (p : X → Bool) (xs : List X) → sum_by f (filter p xs) ≡ sum_by (λ x. cond (p x) (f x) 0) xs

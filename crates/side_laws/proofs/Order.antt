@@ -3,15 +3,13 @@ use Rattle.std.proofs.Common.{◌≡◌, ℕ, ◌-◌, ◌<◌, ◌≤◌, ◌�
 use Rattle.std.specs.Prelude.{nat_lt, ◌==◌}
 use Rattle.std.specs.List.{IsDistinct}
 use Rattle.std.proofs.lemmas.Bool.{both_ways, or_cases, or_left, or_right, and_parts, and_from, ltb-true, lt-ltb, eqb-true, eq-eqb, false_from_ne_true, cases_Bool, cases_order, not_from_false}
-use Rattle.std.proofs.lemmas.Option.{unwrap_or-slice_get}
-use Rattle.std.proofs.lemmas.List.{get_or-map}
 use Rattle.std.proofs.lemmas.List.Sums.{count_by-le-length}
 use Rattle.std.proofs.lemmas.List.Folds.{list_any_at}
 use Rattle.definitions.specs.declared.Cell.{Cell}
-use Rattle.definitions.specs.Sets.{SetValue, FamilyValue, same_cell, holds, overlaps, is_subset, crosses, cells_of, IsQuotaSet, IsSet, set_cells, set_size, set_side, IsBihierarchy}
+use Rattle.definitions.specs.Sets.{SetValue, FamilyValue, same_cell, holds, overlaps, is_subset, crosses, IsQuotaSet, IsSet, set_cells, set_size, set_side, IsBihierarchy}
 use Rattle.definitions.specs.Hierarchies.{IsLower, IsAbove, IsHolder}
 use Rattle.definitions.proofs.Members.{cell_test, rising_distinct, member_place, all_members, no_larger_holds, common_turned, every_by_count}
-use Rattle.definitions.proofs.Families.{number_of_set}
+use Rattle.definitions.proofs.Families.{number_of_set, cells_of_set}
 
 -- by two sizes and then two numbers
 rank_test : ℕ → ℕ → ℕ → ℕ → Bool
@@ -32,12 +30,6 @@ rank_from a b s t (inr r) = or_right (nat_lt a b) ((a == b) && nat_lt s t) (and_
 rank_self : (a s : ℕ) → (a < a) ⊎ ((a ≡ a) × (s < s)) → ⊥
 rank_self a s (inl l) = absurd (omega (arith, l))
 rank_self a s (inr r) = absurd (omega (arith, r.1))
-
-rank_through : (a b c s t u : ℕ) → (a < b) ⊎ ((a ≡ b) × (s < t)) → (b < c) ⊎ ((b ≡ c) × (t < u)) → (a < c) ⊎ ((a ≡ c) × (s < u))
-rank_through a b c s t u (inl l) (inl m) = inl (omega arith)
-rank_through a b c s t u (inl l) (inr m) = inl (omega (arith, l, m.0))
-rank_through a b c s t u (inr l) (inl m) = inl (omega (arith, l.0, m))
-rank_through a b c s t u (inr l) (inr m) = inr (omega (arith, l.0, m.0), omega (arith, l.1, m.1))
 
 rank_cases : (a b s t : ℕ) → ((s ≡ t) ⊎ ((a < b) ⊎ ((a ≡ b) × (s < t)))) ⊎ ((b < a) ⊎ ((b ≡ a) × (t < s)))
 rank_cases a b s t = elim (cases_order a b) [
@@ -65,17 +57,9 @@ lower_from f s t h = rank_from (set_size f s) (set_size f t) s t h
 pub lower_self : (f : FamilyValue) (s : ℕ) → is_lower f s s ≡ false
 lower_self f s = false_from_ne_true (is_lower f s s) (λ h. rank_self (set_size f s) s (lower_true f s s h))
 
-pub lower_through : (f : FamilyValue) (s t u : ℕ) → IsLower f s t → IsLower f t u → IsLower f s u
-lower_through f s t u h k = rank_through (set_size f s) (set_size f t) (set_size f u) s t u h k
-
 -- of two numbers one is lower, or they are one
 pub lower_cases : (f : FamilyValue) (s t : ℕ) → ((s ≡ t) ⊎ IsLower f s t) ⊎ IsLower f t s
 lower_cases f s t = rank_cases (set_size f s) (set_size f t) s t
-
--- the cells of a set are those that stand at its index
-pub cells_of_set : (f : FamilyValue) (s : ℕ) → IsSet f s → (d : SetValue) → set_cells f s ≡ (get_or f.sets (s - 1) d).cells
-cells_of_set f s known d =
-    unwrap_or-slice_get (cells_of f) (s - 1) [] ∙ get_or-map (λ (q : SetValue). q.cells) f.sets (s - 1) d [] (let low = known.0 in let high = known.1 in omega arith)
 
 -- the cells of a set of a lawful family have no repeats
 pub set_distinct : (f : FamilyValue) → All IsQuotaSet f.sets → (s : ℕ) → IsSet f s → IsDistinct same_cell (set_cells f s)

@@ -1,29 +1,22 @@
 -- The sets of a lawful problem: the stated sets have side 2, and the agents' rows have side 1 and share no cell.
-use Rattle.std.proofs.Common.{◌≡◌, ℕ, zero, suc, ◌+◌, ◌-◌, ◌<◌, ◌≤◌, ◌∙◌, List, [], length, map, take, get_or, true, false, not, ◌&&◌, sym, ap, refl, subst, inl, inr, arith, length-take}
+use Rattle.std.proofs.Common.{◌≡◌, ℕ, zero, suc, ◌+◌, ◌-◌, ◌<◌, ◌≤◌, ◌∙◌, List, length, map, take, get_or, true, false, not, ◌&&◌, sym, ap, refl, subst, inl, inr, arith, length-take}
 use Rattle.std.specs.Prelude.{nat_eq, ◌==◌}
 use Rattle.std.specs.List.{list_any, range_with_len, enumerate_from}
 use Rattle.std.specs.Set.{is_member}
 use Rattle.std.proofs.lemmas.Bool.{both_ways, or_cases, and_parts, eqb-true, cases_lt}
 use Rattle.std.proofs.lemmas.List.{get_or-map, get_or-take, get_or-drop}
 use Rattle.std.proofs.lemmas.List.FromFn.{get_or-enumerate_from, length-enumerate_from}
-use Rattle.definitions.specs.Sets.{SetValue, FamilyValue, cell_of, holds, overlaps, is_subset, crosses, row_cells, IsSet, set_cells, set_side, IsHierarchy, IsBihierarchy}
+use Rattle.definitions.specs.Sets.{SetValue, cell_of, holds, overlaps, is_subset, crosses, row_cells, IsSet, set_cells, set_side, IsHierarchy, IsBihierarchy}
 use Rattle.definitions.specs.Values.{ProblemValue, IsProblem, column_count}
 use Rattle.definitions.proofs.Members.{crosses_self}
-use Rattle.definitions.proofs.Families.{sets_of_problem, bihierarchy_of_sides}
-use Rattle.side_laws.proofs.Cells.{member_of_row}
-use Rattle.side_laws.proofs.Order.{cells_of_set}
-
-abbrev no_set : SetValue
-no_set = record { side = 1; floor = 0; ceiling = 0; cells = [] }
-
-side_of_set : (f : FamilyValue) (s : ℕ) → IsSet f s → set_side f s ≡ (get_or f.sets (s - 1) no_set).side
-side_of_set f s known = get_or-map (λ (q : SetValue). q.side) f.sets (s - 1) no_set 0 (let low = known.0 in let high = known.1 in omega arith)
+use Rattle.definitions.proofs.Families.{sets_of_problem, bihierarchy_of_sides, no_set, cells_of_set, side_of_set}
+use Rattle.definitions.proofs.Cells.{row_member}
 
 row_overlap : (columns i j s n : ℕ) → list_any (holds (row_cells columns j)) (map (cell_of i) (range_with_len s n)) ≡ true → i ≡ j
 row_overlap columns i j s zero h = absurd (both_ways false refl h)
 row_overlap columns i j s (suc n) h =
     elim (or_cases (holds (row_cells columns j) (cell_of i s)) (list_any (holds (row_cells columns j)) (map (cell_of i) (range_with_len (s + 1) n))) h) [
-      | inl here ↦ eqb-true i j (and_parts (i == j) (is_member nat_eq (range_with_len 0 columns) s) (sym (member_of_row j 0 columns (cell_of i s)) ∙ here)).0
+      | inl here ↦ eqb-true i j (and_parts (i == j) (is_member nat_eq (range_with_len 0 columns) s) (sym (row_member j (range_with_len 0 columns) (cell_of i s)) ∙ here)).0
       | inr later ↦ row_overlap columns i j (s + 1) n later
     ]
 
@@ -42,7 +35,7 @@ module _ (p : ProblemValue) (h : IsProblem p) where
       let low = known.0 in
       let high = known.1 in
       let inside : s - 1 < length (take p.stated p.family.sets) = omega (arith, length-take p.stated p.family.sets) in
-      side_of_set p.family s known
+      side_of_set p.family s known no_set
       ∙ ap (λ (q : SetValue). q.side) (sym (get_or-take p.stated p.family.sets (s - 1) no_set (omega arith)))
       ∙ (h.stated_lawful (s - 1) no_set inside).side
 
@@ -65,7 +58,7 @@ module _ (p : ProblemValue) (h : IsProblem p) where
       ∙ ap (λ n. row (n, get_or p.demands k 0)) plain
 
   pub row_side : (s : ℕ) → IsSet p.family s → p.stated < s → set_side p.family s ≡ 1
-  row_side s known l = side_of_set p.family s known ∙ ap (λ (q : SetValue). q.side) (row_at s known l)
+  row_side s known l = side_of_set p.family s known no_set ∙ ap (λ (q : SetValue). q.side) (row_at s known l)
 
   -- its cells are the row of an agent
   pub row_set_cells : (s : ℕ) → IsSet p.family s → p.stated < s → set_cells p.family s ≡ row_cells (column_count p) (s - 1 - p.stated)

@@ -9,8 +9,9 @@ use Rattle.definitions.specs.declared.Cell.{Cell}
 use Rattle.definitions.specs.Sets.{FamilyValue, same_cell, holds, is_subset, IsQuotaSet, IsSet, IsCellWithin, set_cells, set_side}
 use Rattle.definitions.specs.Hierarchies.{IsLower, IsParent, HasNoParent, IsHolder, IsDeepest, TreesValue, AreTreesOf, parent_at, deepest_at, chain_of}
 use Rattle.definitions.proofs.Members.{cell_test, all_members, all_from_members}
+use Rattle.definitions.proofs.Families.{lower_through}
 use Rattle.side_laws.proofs.Chains.{IsUpward, IsWayUp, IsFirstOf, climb_none, climb_step, climb_distinct, climb_has, climb_suffix, members_keep, members_rise, rest_rises}
-use Rattle.side_laws.proofs.Order.{is_lower, lower_true, lower_from, lower_self, lower_through, above_lower, above_at_cell, holds_some}
+use Rattle.side_laws.proofs.Order.{is_lower, lower_true, lower_from, lower_self, above_lower, above_at_cell, holds_some}
 
 -- the chain of no set is empty
 pub chain_none : (t : TreesValue) → chain_of t None ≡ []

@@ -1,0 +1,4 @@
+mod Denominators
+mod Lawful
+pub mod OneAnswer
+mod Units

@@ -31,7 +31,8 @@ pub header-first : (xs : List Row) (row : Row) → not (length xs == 0) ≡ fals
 header-first [] row h = (refl, refl)
 header-first (x ∷ xs) row h = let t = rw (ne_eqb (suc (length xs)) 0 (λ z. cc z)) at h in cc t
 
-header-kept : (xs : List Row) (row : Row) → true ≡ not (length (xs ++ row ∷ []) == 0)
+-- after a record that is not skipped there is a header
+pub header-kept : (xs : List Row) (row : Row) → true ≡ not (length (xs ++ row ∷ []) == 0)
 header-kept [] row = refl
 header-kept (x ∷ xs) row = rw (ne_eqb (suc (length (xs ++ row ∷ []))) 0 (λ z. cc z)) refl
 
@@ -60,23 +61,7 @@ after-agent o e row s s2 h n k p q a =
       q ∙ rw (rows, more, a.2) (sym (map-append (list_of o) (agent_rows e) (row ∷ []))),
     )
 
-pub checks-weaken : {X : Type 0} (r : Result X Stop) (a b : Option InputKind) (P Q : X → Type 0) → a ≡ b → ((x : X) → P x → Q x) → Checks r a P → Checks r b Q
-checks-weaken (Ok x) a b P Q e f h = (sym e ∙ h.0, f x h.1)
-checks-weaken (Err s) a b P Q e f h = subst (λ k. StopsAt s k) e h
-
 pub agent-check : (o : List (List ℕ)) (e : List Row) (row : Row) (s : State) → false ≡ (length row == 0) → true ≡ list_all is_utf8 row → s.header ≡ true → IsAfter o e s
     → check_agent o s.agents row ≡ check_record o e row
 unfolding check_record
 agent-check o e row s h t n a = rw (← h, ← t, sym a.0 ∙ n, a.1) refl
-
-pub end-no-header : (o : List (List ℕ)) (rows : List Row) (s : State) → s.header ≡ false → IsAfter o rows s → check_end rows ≡ Some kind.NoHeader
-unfolding check_end
-end-no-header o rows s n a = rw (sym a.0 ∙ n) refl
-
-pub end-no-agents : (o : List (List ℕ)) (rows : List Row) (s : State) → s.header ≡ true → length s.agents ≡ 0 → IsAfter o rows s → check_end rows ≡ Some kind.NoAgents
-unfolding check_end
-end-no-agents o rows s n z a = rw (sym a.0 ∙ n, sym (ap length a.1) ∙ z) refl
-
-pub end-lawful : (o : List (List ℕ)) (rows : List Row) (s : State) → s.header ≡ true → length s.agents ≢ 0 → IsAfter o rows s → check_end rows ≡ None
-unfolding check_end
-end-lawful o rows s n z a = rw (sym a.0 ∙ n, ne_eqb (length (agents_of rows)) 0 (λ e. z (ap length a.1 ∙ e))) refl

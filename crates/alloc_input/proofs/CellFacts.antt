@@ -1,5 +1,6 @@
 -- The cells of a matrix that a test picks, and those of a rectangle besides.
 use Rattle.std.proofs.Common.{◌≡◌, ◌∙◌, ◌+◌, ◌<◌, ◌≤◌, ◌*◌, ◌++◌, ◌∷◌, ◌||◌, ◌&&◌, [], ℕ, suc, zero, List, Bool, true, false, length, refl, sym, ap, map, filter, get_or, set, take, inl, inr, arith, length-append, append_assoc}
+use Rattle.std.proofs.Math.Bool.{or-false}
 use Rattle.std.specs.Prelude.{◌==◌, nat_lt, flat_map}
 use Rattle.std.specs.List.{list_any, range_with_len, sum_by}
 use Rattle.std.proofs.lemmas.Bool.{cases_Bool, cases_lt, cases_eq, or_cases, or_left, or_right, and_parts, and_left, eqb-true, eq-eqb, ne_eqb, lt-ltb}
@@ -11,35 +12,12 @@ use Rattle.std.proofs.lemmas.List.Sums.{sum_by-append, sum_by-set}
 use Rattle.definitions.specs.declared.Cell.{Cell}
 use Rattle.definitions.specs.Sets.{cell_of, same_cell, holds, row_cells, all_cells}
 use Rattle.definitions.proofs.Members.{cell_test}
+use Rattle.definitions.proofs.Cells.{member_is_within, row_count}
+use Rattle.definitions.proofs.Lists.{filter_all, filter_none}
 use Rattle.alloc_input.specs.Cells.{has_number, numbers_to, distinct_below, covers, with_rectangle}
-use Rattle.alloc_input.specs.Numbers.{AreNumbersBelow, AddsNumbers, AreRows, row_of, cells_in_rows}
+use Rattle.alloc_input.specs.Marked.{AreRows, row_of, cells_in_rows}
+use Rattle.alloc_input.specs.Numbers.{AreNumbersBelow, AddsNumbers}
 use Rattle.alloc_input.proofs.NumberFacts.{filter-full, length-filter-le, none_below}
-
--- ---- which cells a matrix has
-
-in_row : (i s n : ℕ) (c : Cell) → holds (map (cell_of i) (range_with_len s n)) c ≡ true → (c.agent ≡ i) × (c.object < s + n)
-in_row i s zero c h = cc h
-in_row i s (suc n) c h = elim (or_cases (same_cell c (cell_of i s)) (holds (map (cell_of i) (range_with_len (s + 1) n)) c) h) [
-  | inl here ↦ (let two = and_parts (c.agent == i) (c.object == s) here in let e = eqb-true c.object s two.1 in (eqb-true c.agent i two.0, omega (arith, e)))
-  | inr later ↦ (let r = in_row i (s + 1) n c later in (r.0, omega (arith, r.1)))
-]
-
-in_rows : (columns a n : ℕ) (c : Cell) → holds (flat_map (row_cells columns) (range_with_len a n)) c ≡ true → (c.agent < a + n) × (c.object < columns)
-in_rows columns a zero c h = cc h
-in_rows columns a (suc n) c h = elim (or_cases (holds (row_cells columns a) c) (holds (flat_map (row_cells columns) (range_with_len (a + 1) n)) c) (sym (list_any-append (same_cell c) (row_cells columns a) (flat_map (row_cells columns) (range_with_len (a + 1) n))) ∙ h)) [
-  | inl here ↦ (let r = in_row a 0 columns c here in (omega (arith, r.0), omega (arith, r.1)))
-  | inr later ↦ (let r = in_rows columns (a + 1) n c later in (omega (arith, r.0), r.1))
-]
-
--- a cell of a matrix is within it
-pub in_matrix : (m n : ℕ) (c : Cell) → holds (all_cells m n) c ≡ true → (c.agent < m) × (c.object < n)
-in_matrix m n c h = let r = in_rows n 0 m c h in (omega (arith, r.0), r.1)
-
-row_count : (columns s n : ℕ) → length (flat_map (row_cells columns) (range_with_len s n)) ≡ n * columns
-row_count columns s zero = omega arith
-row_count columns s (suc n) =
-    let wide : suc n * columns ≡ columns + n * columns = grind arith in
-    omega (arith, length-append (row_cells columns s) (flat_map (row_cells columns) (range_with_len (s + 1) n)), length-map-range_with_len (cell_of s) 0 columns, row_count columns (s + 1) n, wide)
 
 -- ---- what a test picks
 
@@ -80,10 +58,6 @@ filter_more_le p q (x ∷ xs) h = elim (cases_Bool (p x)) [
   ]
 ]
 
-filter_all : (xs : List Cell) → filter (λ _. true) xs ≡ xs
-filter_all [] = refl
-filter_all (x ∷ xs) = ap (λ ys. x ∷ ys) (filter_all xs)
-
 -- ---- rectangles
 
 module _ (p : Cell → Bool) (m n : ℕ) where
@@ -96,11 +70,7 @@ module _ (p : Cell → Bool) (m n : ℕ) where
 
   -- a rectangle of no agents
   pub rectangle-none : (columns : List ℕ) → with_rectangle m n [] columns (filter p (all_cells m n)) ≡ filter p (all_cells m n)
-  rectangle-none columns = picked_with_rectangle [] columns ∙ filter_same (λ c. p c || covers [] columns c) p (all_cells m n) (λ c h. or_nil (p c))
-    where
-      or_nil : (b : Bool) → (b || false) ≡ b
-      or_nil true = refl
-      or_nil false = refl
+  rectangle-none columns = picked_with_rectangle [] columns ∙ filter_same (λ c. p c || covers [] columns c) p (all_cells m n) (λ c h. or-false (p c))
 
   either : (a b c d : Bool) → ((a || (b && d)) || (c && d)) ≡ (a || ((b || c) && d))
   either true b c d = refl
@@ -147,7 +117,7 @@ module _ (p : Cell → Bool) (m n : ℕ) where
       ap (with_rectangle m n rows columns) full ∙ still rows columns ∙ sym full
     where
       still : (rows columns : List ℕ) → with_rectangle m n rows columns (all_cells m n) ≡ all_cells m n
-      still rows columns = filter_same (λ c. holds (all_cells m n) c || covers rows columns c) (λ _. true) (all_cells m n) (λ c h. rw h refl) ∙ filter_all (all_cells m n)
+      still rows columns = filter_same (λ c. holds (all_cells m n) c || covers rows columns c) (λ _. true) (all_cells m n) (λ c h. rw h refl) ∙ filter_all (λ _. true) (all_cells m n) (λ k d l. refl)
 
 -- ---- rows
 
@@ -212,18 +182,14 @@ module _ (m n i : ℕ) (rows : List (List ℕ)) (columns row : List ℕ) (lt : i
     | inr other ↦
         let there : row_of (set rows i row) c.agent ≡ row_of rows c.agent = get_or-set_other rows i c.agent row [] other in
         let ne : i == c.agent ≡ false = ne_eqb i c.agent (λ e. other (sym e)) in
-        rw (there, ne) (sym (or_nil (in_rows_test rows c)))
+        rw (there, ne) (sym (or-false (in_rows_test rows c)))
   ]
-    where
-      or_nil : (b : Bool) → (b || false) ≡ b
-      or_nil true = refl
-      or_nil false = refl
 
   -- its new cells are those of a rectangle of one agent
   pub row_grown : cells_in_rows m n (set rows i row) ≡ with_rectangle m n (i ∷ []) columns (cells_in_rows m n rows)
   unfolding cells_in_rows
   row_grown =
-      filter_same (in_rows_test (set rows i row)) (λ c. in_rows_test rows c || covers (i ∷ []) columns c) (all_cells m n) (λ c h. row_test c (in_matrix m n c h).1)
+      filter_same (in_rows_test (set rows i row)) (λ c. in_rows_test rows c || covers (i ∷ []) columns c) (all_cells m n) (λ c h. row_test c (member_is_within m n c h).1)
       ∙ sym (picked_with_rectangle (in_rows_test rows) m n (i ∷ []) columns)
 
   pub rows_grown : (count new : ℕ) → AreRows m n rows count → AreNumbersBelow n row → new + length (row_of rows i) ≡ count + length row → AreRows m n (set rows i row) new
@@ -244,27 +210,19 @@ pub rectangle-past : (m n i : ℕ) (rows : List (List ℕ)) (columns : List ℕ)
 unfolding cells_in_rows
 rectangle-past m n i rows columns l =
     picked_with_rectangle (in_rows_test rows) m n (i ∷ []) columns
-    ∙ filter_same (λ c. in_rows_test rows c || covers (i ∷ []) columns c) (in_rows_test rows) (all_cells m n) (λ c h. past c (in_matrix m n c h).0)
+    ∙ filter_same (λ c. in_rows_test rows c || covers (i ∷ []) columns c) (in_rows_test rows) (all_cells m n) (λ c h. past c (member_is_within m n c h).0)
   where
-    or_nil : (b : Bool) → (b || false) ≡ b
-    or_nil true = refl
-    or_nil false = refl
-
     past : (c : Cell) → c.agent < m → (in_rows_test rows c || covers (i ∷ []) columns c) ≡ in_rows_test rows c
-    past c h = let ne : i == c.agent ≡ false = ne_eqb i c.agent (λ e. absurd (omega arith)) in rw ne (or_nil (in_rows_test rows c))
+    past c h = let ne : i == c.agent ≡ false = ne_eqb i c.agent (λ e. absurd (omega arith)) in rw ne (or-false (in_rows_test rows c))
 
 -- ---- rows without numbers
 
 pub no_rows : (m n : ℕ) → AreRows m n [] 0
 no_rows m n = record { below = λ i. none_below n; shape = omega arith; counted = refl }
 
-filter_none : (xs : List Cell) → filter (λ _. false) xs ≡ []
-filter_none [] = refl
-filter_none (x ∷ xs) = filter_none xs
-
 pub no_cells : (m n : ℕ) → cells_in_rows m n [] ≡ []
 unfolding cells_in_rows
-no_cells m n = filter_same (in_rows_test []) (λ _. false) (all_cells m n) (λ c h. refl) ∙ filter_none (all_cells m n)
+no_cells m n = filter_same (in_rows_test []) (λ _. false) (all_cells m n) (λ c h. refl) ∙ filter_none (λ _. false) (all_cells m n) (λ k d l. refl)
 
 pub row_of-push : (rows : List (List ℕ)) (i : ℕ) → row_of (rows ++ [] ∷ []) i ≡ row_of rows i
 row_of-push [] zero = refl

@@ -1,18 +1,16 @@
 -- One more choice of an agent.
-use Rattle.std.proofs.Common.{◌≡◌, ◌==◌, ◌||◌, ◌∙◌, ◌++◌, ◌∷◌, [], ℕ, suc, List, Option, Some, None, Bool, true, false, refl, sym, ap, length}
+use Rattle.std.proofs.Common.{◌≡◌, ◌==◌, ◌<◌, ◌||◌, ◌∙◌, ◌++◌, ◌∷◌, [], ℕ, suc, List, Option, Some, None, Bool, true, false, refl, sym, ap, length}
+use Rattle.std.proofs.Math.Bool.{or-false}
 use Rattle.std.specs.List.{list_any, filter_map}
 use Rattle.std.specs.Str.{bytes_eq}
 use Rattle.std.proofs.lemmas.Bool.{ne_eqb}
 use Rattle.std.proofs.lemmas.List.{append-nil}
 use Rattle.std.proofs.lemmas.List.Elements.{filter_map-append}
 use Rattle.std.proofs.lemmas.List.Folds.{list_any-append}
+use Rattle.std.proofs.lemmas.List.Quantifiers.{position-Some}
 use Rattle.definitions.specs.Texts.{is_name, name_index, null_name}
 use Rattle.alloc_input.specs.Prefs.{check_choice, check_column, column_of, columns_of}
 use Rattle.alloc_input.specs.PrefsReading.{IsAfterChoices}
-
-or-false : (b : Bool) → (b || false) ≡ b
-or-false true = refl
-or-false false = refl
 
 blank-is-nil : (x : List ℕ) → true ≡ (length x == 0) → x ≡ []
 blank-is-nil [] e = refl
@@ -63,3 +61,7 @@ unfolding check_choice
 repeated-choice o e x k cs cl h n q m p a =
     let still = sym a.1 ∙ n in
     rw (← h, still, ← q, ← m, ← p, ← a.0) refl
+
+-- an object that is found is one of them
+pub known-column : (objects : List (List ℕ)) (x : List ℕ) (k : ℕ) → Some k ≡ name_index objects x → k < length objects
+known-column objects x k e = (position-Some (bytes_eq x) objects k [] (sym e)).0

@@ -21,7 +21,9 @@ use Rattle.alloc_input.specs.declared.words.Word.{Word}
 use Rattle.alloc_input.specs.declared.words.Word.TheVariants as word
 use Rattle.alloc_input.proofs.KnownNames.{is_some-name_index}
 use Rattle.alloc_input.proofs.OnceEach.{has-each_once}
-use Rattle.alloc_input.proofs.StatedSets.{IsSolveStated, solve-stated, stated-more}
+use Rattle.alloc_input.proofs.Reading.{stated_more}
+use Rattle.alloc_input.proofs.StatedChecks.{some-value}
+use Rattle.alloc_input.proofs.StatedSets.{IsSolveStated, solve-stated}
 
 -- ---- the names that stand once each have different places
 
@@ -51,10 +53,6 @@ pub each_once-distinct : (names : List (List ℕ)) → IsDistinct bytes_eq (each
 unfolding IsDistinct
 each_once-distinct [] = tt
 each_once-distinct (y ∷ names) = (apart-filter y (each_once names), distinct-filter (λ z. not (bytes_eq y z)) (each_once names) (each_once-distinct names))
-
-some-value : (o : Option ℕ) → is_some o ≡ true → (a : ℕ) × (o ≡ Some a)
-some-value None e = cc e
-some-value (Some a) e = (a, refl)
 
 -- among distinct names each stands at its own place
 place-of : (names : List (List ℕ)) (a : ℕ) → IsDistinct bytes_eq names → a < length names → name_index names (get_or names a []) ≡ Some a

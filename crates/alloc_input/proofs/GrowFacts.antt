@@ -9,7 +9,7 @@ use Rattle.definitions.specs.declared.Cell.{Cell}
 use Rattle.definitions.specs.Sets.{SetValue, cells_in}
 use Rattle.alloc_input.specs.Cells.{with_rectangle}
 use Rattle.alloc_input.specs.Checks.{need, first_of, StopsAt}
-use Rattle.alloc_input.specs.Numbers.{marked_cells, IsMarked, IsGrown}
+use Rattle.alloc_input.specs.Marked.{marked_cells, IsMarked, IsGrown}
 use Rattle.alloc_input.specs.Stated.{with_rectangle_in, empty_set, grown_at}
 use Rattle.alloc_input.specs.Quotas.{check_limits}
 use Rattle.alloc_input.specs.Reading.{set_value, values, IsOpen, IsCounted, AreQuotas}
@@ -20,9 +20,6 @@ use Rattle.alloc_input.specs.declared.faults.Stop.TheVariants as stop
 use Rattle.alloc_input.specs.declared.marks.Marks.{Marks}
 use Rattle.alloc_input.specs.declared.open_sets.OpenSet.{OpenSet}
 use Rattle.alloc_input.proofs.CellFacts.{count_is}
-
-pub stops_along : (s : Stop) (a b : Option InputKind) → a ≡ b → StopsAt s a → StopsAt s b
-stops_along s a b e h = rw (← e) h
 
 -- the limits of few sets are those of their cells
 limits_are : (sets : List SetValue) (n a most : ℕ) → length sets ≤ 1000 → n ≡ cells_in sets → (a ≤ most → n ≤ 1000000) → (most < a → 1000000 < n) → need (nat_le a most) kind.OverLimit ≡ check_limits sets

@@ -12,10 +12,10 @@ use Rattle.std.proofs.lemmas.List.Quantifiers.{position-Some}
 use Rattle.std.proofs.lemmas.Map.Keys.{IsDistinct-push}
 use Rattle.definitions.specs.Texts.{Row, first_field, is_name, name_index, null_name}
 use Rattle.definitions.specs.Values.{IsListUpTo}
+use Rattle.definitions.proofs.Passed.{passed, among-keeps, fault-keeps, fault-ends}
 use Rattle.alloc_input.specs.Prefs.{filled_rows, has_header, agent_rows, agents_of, lists_of, list_of, column_of, columns_of, check_column, check_choice, check_choices, check_agent, check_record, check_end, fault_of}
 use Rattle.alloc_input.specs.PrefsReading.{ArePreferences}
 use Rattle.alloc_input.proofs.AfterRecords.{filled_rows-blank, filled_rows-more, drop-more, header-first}
-use Rattle.alloc_input.proofs.Passed.{passed, among-keeps, fault-keeps, fault-ends}
 
 -- ---- the columns of one list
 
@@ -155,7 +155,8 @@ agents-lawful objects rows e =
 none-left : (n : ℕ) → n ≡ 0 → not (n == 0) ≡ true → ⊥
 none-left n z e = cc (rw z at e)
 
-some-agents : (rows : List Row) → check_end rows ≡ None → length (agents_of rows) ≢ 0
+-- a text that ends as it may has an agent
+pub some-agents : (rows : List Row) → check_end rows ≡ None → length (agents_of rows) ≢ 0
 unfolding check_end
 some-agents rows e z =
     none-left (length (agents_of rows)) z (passed _ _ _ (passed _ _ _ e).1).0

@@ -2,21 +2,25 @@ mod AfterRecords
 mod CellFacts
 mod Choices
 mod DeclaredSets
-mod FieldFacts
+mod EntryFacts
 mod GrowFacts
 mod KnownNames
 mod LawfulLists
+mod LawfulMatrices
 mod MarkFacts
+mod MatrixRecords
+pub mod MatrixSuits
 mod Members
 mod NumberFacts
 mod OnceEach
-mod Passed
 mod ProblemParts
 mod Ranges
 mod Reading
 mod Rectangles
 mod RisingCells
+mod Stamps
 mod StatedChecks
 mod StatedSets
 mod Steps
+mod Stops
 mod Suits

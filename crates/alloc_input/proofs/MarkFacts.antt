@@ -7,16 +7,14 @@ use Rattle.definitions.specs.declared.Cell.{Cell}
 use Rattle.definitions.specs.Sets.{cell_of, all_cells, row_cells}
 use Rattle.alloc_input.specs.Cells.{with_rectangle}
 use Rattle.alloc_input.specs.Checks.{Checks, StopsAt, need}
-use Rattle.alloc_input.specs.Numbers.{AreNumbersBelow, AreRows, IsGrown, row_of, cells_in_rows, marked_cells}
+use Rattle.alloc_input.specs.Marked.{AreRows, IsGrown, row_of, cells_in_rows, marked_cells}
+use Rattle.alloc_input.specs.Numbers.{AreNumbersBelow}
 use Rattle.alloc_input.specs.declared.marks.Marks.{Marks}
 use Rattle.alloc_input.specs.declared.faults.InputKind.{InputKind}
 use Rattle.alloc_input.specs.declared.faults.InputKind.TheVariants as kind
 use Rattle.alloc_input.specs.declared.faults.Stop.{Stop}
+use Rattle.alloc_input.proofs.Stops.{checks_along}
 use Rattle.alloc_input.proofs.CellFacts.{in_rows_test, rectangle-none, rectangle-more, rectangle_le, rectangle-full, one_row, row-picked, count_is, cells-push, rows-push}
-
-pub checks_along : {X : Type 0} (r : Result X Stop) (a b : Option InputKind) (P Q : X → Type 0) → a ≡ b → ((x : X) → P x → Q x) → Checks r a P → Checks r b Q
-checks_along (Ok x) a b P Q e f h = (sym e ∙ h.0, f x h.1)
-checks_along (Err s) a b P Q e f h = rw (← e) h
 
 pub need-le : (n most : ℕ) (k : InputKind) → n ≤ most → need (nat_le n most) k ≡ None
 need-le n most k l = rw (le-leb n most l) refl

@@ -21,10 +21,3 @@ module _ (f : List ℕ → Option InputKind) (fs : List (List ℕ)) (j : ℕ) wh
 pub member_more : (h : List ℕ → Option ℕ) (fs : List (List ℕ)) (j : ℕ) (xs ys : List ℕ) (x : List ℕ) → j < length fs → x ≡ get_or fs j [] → xs ≡ filter_map h (take j fs) → ys ≡ xs ++ filter_map h (x ∷ [])
     → ys ≡ filter_map h (take (j + 1) fs)
 member_more h fs j xs ys x l e p q = q ∙ rw (p, e, take_more fs j [] l) (sym (filter_map-append h (take j fs) (get_or fs j [] ∷ [])))
-
-pub field_after_two : (row : List (List ℕ)) (j : ℕ) → get_or row (j + 2) [] ≡ get_or (drop 2 row) j []
-field_after_two row j = let e : j + 2 ≡ 2 + j = omega arith in rw e (sym (get_or-drop 2 row j []))
-
-pub stops_here : (s : Stop) (a b : Option InputKind) → ((k : InputKind) → a ≡ Some k → b ≡ Some k) → StopsAt s a → StopsAt s b
-stops_here (stop.Unlawful k) a b f h = f k h
-stops_here stop.NoMemory a b f h = tt

@@ -1,6 +1,7 @@
 -- Numbers in rising order, each once, and one more number.
-use Rattle.std.proofs.Common.{◌≡◌, ◌∙◌, ◌+◌, ◌<◌, ◌≤◌, ◌++◌, ◌∷◌, ◌||◌, ◌&&◌, [], ℕ, suc, zero, List, Bool, true, false, length, refl, sym, ap, filter, inl, inr, arith}
-use Rattle.std.specs.Prelude.{◌==◌, nat_lt, Result, Ok, Err, OnOk, IfOk}
+use Rattle.std.proofs.Common.{◌≡◌, ◌≢◌, ◌∙◌, ◌+◌, ◌<◌, ◌≤◌, ◌++◌, ◌∷◌, ◌||◌, ◌&&◌, [], ℕ, suc, zero, List, Bool, true, false, length, Option, Some, None, refl, sym, ap, filter, get_or, take, inl, inr, arith}
+use Rattle.std.proofs.Math.Bool.{or-false}
+use Rattle.std.specs.Prelude.{◌==◌, nat_lt, Result, Ok, Err, OnOk, IfOk, IfSome, IsSomeAnd}
 use Rattle.std.specs.Result.{is_err}
 use Rattle.std.specs.List.{AllByRecursion, list_any, range_with_len}
 use Rattle.std.specs.List.Sorted.{IsStrictlySortedBy}
@@ -9,13 +10,12 @@ use Rattle.std.specs.declared.cmp.Ordering.{Ordering}
 use Rattle.std.specs.declared.cmp.Ordering.TheVariants.{Less, Equal, Greater}
 use Rattle.std.specs.BTreeSet.{insert_key}
 use Rattle.std.proofs.lemmas.Bool.{cases_Bool, cases_lt, cases_eq, or_cases, or_left, or_right, or_from, both_ways, eqb-true, eq-eqb, ne_eqb, lt-ltb, le-ltb, ltb-true}
+use Rattle.std.proofs.lemmas.List.{take_more}
+use Rattle.std.proofs.lemmas.List.Folds.{list_any-append}
 use Rattle.std.proofs.lemmas.List.FromFn.{length-range_with_len}
 use Rattle.alloc_input.specs.Cells.{has_number, numbers_to, distinct_below}
-use Rattle.alloc_input.specs.Numbers.{AreNumbersBelow, AddsNumbers, IsRising}
-
-or-nil : (b : Bool) → (b || false) ≡ b
-or-nil true = refl
-or-nil false = refl
+use Rattle.alloc_input.specs.Numbers.{AreAmong, AreNumbersBelow, AreSetIn, AddsNumbers, IsRising}
+use Rattle.plane_kernel.specs.Bits.{bit_of}
 
 or_comm : (a b : Bool) → (a || b) ≡ (b || a)
 or_comm true true = refl
@@ -34,7 +34,7 @@ or_assoc false b c = refl
 
 -- a number put at its place in the order
 pub has-insert : (xs : List ℕ) (k j : ℕ) → has_number (insert_key nat_cmp xs k) j ≡ (has_number xs j || (k == j))
-has-insert [] k j = or-nil (k == j)
+has-insert [] k j = or-false (k == j)
 has-insert (x ∷ xs) k j = elim (cases_Bool (nat_lt k x)) [
   | inl below ↦ rw below (or_comm (k == j) ((x == j) || has_number xs j))
   | inr from ↦ elim (cases_Bool (k == x)) [
@@ -196,7 +196,7 @@ distinct-added n numbers new a r =
 
 -- one more number of some
 pub adds_more : (n k j : ℕ) (xs : List ℕ) (a b : Bool) → b ≡ (a || (nat_lt j n && has_number (k ∷ []) j)) → b ≡ (a || (nat_lt j n && (k == j)))
-adds_more n k j xs a b e = e ∙ ap (λ c. a || (nat_lt j n && c)) (or-nil (k == j))
+adds_more n k j xs a b e = e ∙ ap (λ c. a || (nat_lt j n && c)) (or-false (k == j))
 
 pub on_ok : {X E : Type 0} (P : Type 0) (r : Result X E) → is_err r ≡ false → OnOk r P → P
 on_ok P (Ok x) e h = h
@@ -205,3 +205,32 @@ on_ok P (Err x) e h = cc e
 pub if_ok : {X E : Type 0} (r : Result X E) (P Q : X → Type 0) → ((x : X) → P x → Q x) → IfOk r P → IfOk r Q
 if_ok (Ok x) P Q f h = f x h
 if_ok (Err e) P Q f h = tt
+
+added_known : (a b c : Bool) → (c ≡ true → b ≡ true → a ≡ true) → a ≡ (a || (c && b))
+added_known true b c h = refl
+added_known false true true h = cc (h refl refl)
+added_known false false true h = refl
+added_known false b false h = refl
+
+-- numbers that are all known are there
+pub known-adds : (n : ℕ) (numbers xs : List ℕ) (plane : Option (List ℕ)) → IfSome plane (AreSetIn n numbers) → IsSomeAnd plane (AreAmong xs) → AddsNumbers n numbers xs xs
+known-adds n numbers xs None set among j = absurd among
+known-adds n numbers xs (Some plane) set among j =
+    added_known (has_number xs j) (has_number numbers j) (nat_lt j n) (λ l h. among j (set j (ltb-true j n l) h))
+
+-- one more number that a plane has
+pub set-more : (n i : ℕ) (numbers plane plane2 : List ℕ) → i < length numbers → AreSetIn n (take i numbers) plane → ((j : ℕ) → bit_of plane j ≡ 1 → bit_of plane2 j ≡ 1)
+    → (get_or numbers i 0 < n → bit_of plane2 (get_or numbers i 0) ≡ 1) → AreSetIn n (take (i + 1) numbers) plane2
+set-more n i numbers plane plane2 lt s kept set j l h =
+    let more = ap (λ xs. has_number xs j) (take_more numbers i 0 lt) ∙ list_any-append (λ x. x == j) (take i numbers) (get_or numbers i 0 ∷ []) in
+    elim (or_cases (has_number (take i numbers) j) (has_number (get_or numbers i 0 ∷ []) j) (sym more ∙ h)) [
+      | inl was ↦ kept j (s j l was)
+      | inr is ↦ (let same = eqb-true (get_or numbers i 0) j (sym (or-false (get_or numbers i 0 == j)) ∙ is) in rw (← same) (set (omega (arith, same))))
+    ]
+
+-- a plane with the bit of a number that is put in
+pub among-insert : (xs : List ℕ) (k : ℕ) (plane plane2 : List ℕ) → AreAmong xs plane → ((j : ℕ) → bit_of plane2 j ≡ 1 → j ≢ k → bit_of plane j ≡ 1) → AreAmong (insert_key nat_cmp xs k) plane2
+among-insert xs k plane plane2 among only j e = has-insert xs k j ∙ elim (cases_eq k j) [
+  | inl same ↦ or_right (has_number xs j) (k == j) (eq-eqb k j same)
+  | inr other ↦ or_left (has_number xs j) (k == j) (among j (only j e (λ q. other (sym q))))
+]

@@ -23,10 +23,6 @@ pub stated_next : (g : Setting) (rows : List Row) (i : ℕ) (r : Row) (s s2 : St
     → s2 ≡ stated_from g (nothing g) (take (i + 1) rows)
 stated_next g rows i r s s2 lt e p q = q ∙ rw (p, e, take_more rows i [] lt) (sym (stated_more g (nothing g) (take i rows) (get_or rows i [])))
 
-pub refused_here : (s : Stop) (file n : ℕ) (r : InputRefusal) (a : Option InputKind) (f : Option (ℕ × InputKind)) → ((k : InputKind) → a ≡ Some k → f ≡ Some (n, k)) → StopsAt s a → IsRefusalFor s file n r → Tells file r f
-refused_here (stop.Unlawful k) file n r a f g h e = rw e (refl, g k h)
-refused_here stop.NoMemory file n r a f g h e = rw e tt
-
 -- a record that may be of some kind has two fields
 pub two_fields : (w : Word) (row : Row) → fields_fit w row ≡ true → 2 ≤ length row
 unfolding fields_fit

@@ -8,13 +8,14 @@ use Rattle.std.proofs.lemmas.List.Kept.{AllPairs-cons, AllPairs-filter}
 use Rattle.definitions.specs.declared.Cell.{Cell}
 use Rattle.definitions.specs.Sets.{SetValue, IsQuotaSet, IsInRange, IsCellWithin, IsRising, IsBefore, cell_of, row_cells, all_cells}
 use Rattle.definitions.proofs.Members.{cell_test, member_at}
-use Rattle.alloc_input.specs.Numbers.{cells_in_rows, marked_cells, row_of}
+use Rattle.alloc_input.specs.Marked.{cells_in_rows, marked_cells, row_of}
 use Rattle.alloc_input.specs.Cells.{has_number}
 use Rattle.alloc_input.specs.Reading.{set_value, values, IsOpen, AreQuotas}
 use Rattle.alloc_input.specs.declared.marks.Marks.{Marks}
 use Rattle.alloc_input.specs.declared.open_sets.OpenSet.{OpenSet}
 use Rattle.definitions.specs.Sets.{same_cell}
-use Rattle.alloc_input.proofs.CellFacts.{in_matrix, in_rows_test}
+use Rattle.definitions.proofs.Cells.{member_is_within}
+use Rattle.alloc_input.proofs.CellFacts.{in_rows_test}
 
 -- a cell at or after a place
 From : ℕ → ℕ → Cell → Type 0
@@ -72,7 +73,7 @@ pub marked-within : (s : Marks) → All (IsCellWithin s.agents s.columns) (marke
 unfolding cells_in_rows
 marked-within s =
     All-filter (in_rows_test s.rows.items) (IsCellWithin s.agents s.columns) (all_cells s.agents s.columns)
-    (λ k d l. in_matrix s.agents s.columns _ (member_at same_cell cell_test (all_cells s.agents s.columns) k d l))
+    (λ k d l. member_is_within s.agents s.columns _ (member_at same_cell cell_test (all_cells s.agents s.columns) k d l))
 
 one_or_two : (side : ℕ) → 1 ≤ side → side ≤ 2 → (side ≡ 1) ⊎ (side ≡ 2)
 one_or_two zero l m = absurd (omega arith)

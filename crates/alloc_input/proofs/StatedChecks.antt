@@ -6,12 +6,12 @@ use Rattle.std.specs.Str.{bytes_eq}
 use Rattle.std.proofs.lemmas.Bool.{leb-true, ltb-true, eqb-true}
 use Rattle.definitions.specs.Sets.{SetValue, cells_in}
 use Rattle.definitions.specs.Texts.{Row, field, is_name, name_index, null_name}
+use Rattle.definitions.proofs.Passed.{both-pass}
 use Rattle.alloc_input.specs.Checks.{need, first_of}
 use Rattle.alloc_input.specs.Stated.{Setting, Stated, floor_at, ceiling_at, side_of, add_object, add_demand, add_set, add_cells}
 use Rattle.alloc_input.specs.Quotas.{is_below, check_limits, check_quotas, object_words, check_object, demand_words, check_demand, set_words, check_set, check_in}
 use Rattle.alloc_input.specs.declared.faults.InputKind.{InputKind}
 use Rattle.alloc_input.specs.declared.faults.InputKind.TheVariants as kind
-use Rattle.alloc_input.proofs.Passed.{both-pass}
 
 -- each of some checks passes, where none fails
 each-passed : (checks : List (Option InputKind)) → first_of checks ≡ None → (k : ℕ) → get_or checks k None ≡ None
@@ -32,7 +32,8 @@ below-limit : (o : Option ℕ) (a : ℕ) → o ≡ Some a → is_below o 200 ≡
 below-limit None a e h = cc e
 below-limit (Some k) a e h = let below = ltb-true k 200 h in let same : k ≡ a = cc e in omega (arith, below, same)
 
-some-value : (o : Option ℕ) → is_some o ≡ true → (a : ℕ) × (o ≡ Some a)
+-- an option with a value
+pub some-value : (o : Option ℕ) → is_some o ≡ true → (a : ℕ) × (o ≡ Some a)
 some-value None e = cc e
 some-value (Some a) e = (a, refl)
 

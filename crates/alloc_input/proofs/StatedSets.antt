@@ -14,6 +14,7 @@ use Rattle.definitions.specs.Sets.{SetValue, cell_of, holds, cells_in}
 use Rattle.definitions.specs.Texts.{Row, field, has_name, name_index}
 use Rattle.definitions.specs.Values.{IsStatedSet, HoldsColumn}
 use Rattle.definitions.proofs.Members.{name_test}
+use Rattle.definitions.proofs.Passed.{both-pass, fault-keeps}
 use Rattle.quota_sets.specs.Parts.{AreDemands}
 use Rattle.alloc_input.specs.Cells.{numbers_to, with_rectangle}
 use Rattle.alloc_input.specs.Checks.{need}
@@ -23,7 +24,7 @@ use Rattle.alloc_input.specs.declared.faults.InputKind.{InputKind}
 use Rattle.alloc_input.specs.declared.faults.InputKind.TheVariants as kind
 use Rattle.alloc_input.specs.declared.words.Word.{Word}
 use Rattle.alloc_input.specs.declared.words.Word.TheVariants as word
-use Rattle.alloc_input.proofs.Passed.{both-pass, fault-keeps}
+use Rattle.alloc_input.proofs.Reading.{stated_more}
 use Rattle.alloc_input.proofs.Rectangles.{rectangle-within, rectangle-keeps, column-added}
 use Rattle.alloc_input.proofs.StatedChecks.{limits-passed, object-passed, demand-passed, set-passed, in-passed}
 
@@ -216,11 +217,6 @@ module _ (g : Setting) (st : Stated) (row : Row) (solve : g.solve ≡ true) (h :
 
 -- ---- all records
 
-pub stated-more : (g : Setting) (st : Stated) (rows : List Row) (row : Row) → stated_from g st (rows ++ row ∷ []) ≡ add_record g (stated_from g st rows) row
-unfolding stated_from
-stated-more g st [] row = refl
-stated-more g st (r ∷ rows) row = stated-more g (add_record g st r) rows row
-
 nothing-stated : (g : Setting) → length g.agents ≤ 1000 → IsSolveStated g (stated_by g [])
 unfolding stated_from
 nothing-stated g few =
@@ -238,5 +234,5 @@ pub solve-stated : (g : Setting) (rows : List Row) → g.solve ≡ true → leng
 unfolding check_record
 solve-stated g rows solve few e =
     fault-keeps (check_record g) (λ _. None) (λ rows. IsSolveStated g (stated_by g rows))
-    (λ before row c h. subst (IsSolveStated g) (sym (stated-more g (nothing g) before row)) (next-stated g (stated_by g before) row solve h c))
+    (λ before row c h. subst (IsSolveStated g) (sym (stated_more g (nothing g) before row)) (next-stated g (stated_by g before) row solve h c))
     [] rows e (nothing-stated g few)

@@ -1,6 +1,9 @@
 pub mod Cells
 pub mod Checks
 pub mod Kinds
+pub mod Marked
+pub mod Matrices
+pub mod MatrixReading
 pub mod Numbers
 pub mod Objects
 pub mod Prefs

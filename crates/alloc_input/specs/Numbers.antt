@@ -1,12 +1,9 @@
--- What contracts say of numbers and cells under construction.
-use Rattle.std.specs.Prelude.{◌≡◌, ◌≤◌, ◌||◌, ◌&&◌, [], ℕ, List, filter, get_or, length, nat_lt}
-use Rattle.std.specs.List.{sum_by}
+-- What contracts say of numbers under construction.
+use Rattle.std.specs.Prelude.{◌≡◌, ◌<◌, ◌||◌, ◌&&◌, ℕ, true, List, nat_lt}
 use Rattle.std.specs.List.Sorted.{IsStrictlySortedBy}
 use Rattle.std.specs.Ordering.{nat_cmp}
-use Rattle.definitions.specs.declared.Cell.{Cell}
-use Rattle.definitions.specs.Sets.{all_cells}
+use Rattle.plane_kernel.specs.Bits.{bit_of}
 use Rattle.alloc_input.specs.Cells.{has_number, distinct_below}
-use Rattle.alloc_input.specs.declared.marks.Marks.{Marks}
 
 -- numbers below n, each once, in rising order
 abbrev pub AreNumbersBelow : ℕ → List ℕ → Type 0
@@ -16,29 +13,14 @@ AreNumbersBelow n xs = xs ≡ distinct_below n xs
 abbrev pub AddsNumbers : ℕ → List ℕ → List ℕ → List ℕ → Type 0
 AddsNumbers n numbers old new = (j : ℕ) → has_number new j ≡ (has_number old j || (nat_lt j n && has_number numbers j))
 
+-- the numbers of the bits that are set in a plane are among these
+abbrev pub AreAmong : List ℕ → List ℕ → Type 0
+AreAmong numbers plane = (j : ℕ) → bit_of plane j ≡ 1 → has_number numbers j ≡ true
+
+-- the bit of each of some numbers that is below n is set in a plane
+abbrev pub AreSetIn : ℕ → List ℕ → List ℕ → Type 0
+AreSetIn n numbers plane = (j : ℕ) → j < n → has_number numbers j ≡ true → bit_of plane j ≡ 1
+
+-- each number is below the next
 abbrev pub IsRising : List ℕ → Type 0
 IsRising xs = IsStrictlySortedBy nat_cmp xs
-
--- the columns of an agent's row
-abbrev pub row_of : List (List ℕ) → ℕ → List ℕ
-row_of rows i = get_or rows i []
-
--- the cells that are marked, in order
-unfoldable pub cells_in_rows : ℕ → ℕ → List (List ℕ) → List Cell
-cells_in_rows m n rows = filter (λ c. has_number (row_of rows c.agent) c.object) (all_cells m n)
-
-abbrev pub marked_cells : Marks → List Cell
-marked_cells s = cells_in_rows s.agents s.columns s.rows.items
-
--- rows of columns below n, for at most m agents, with this many cells
-pub record AreRows (m n : ℕ) (rows : List (List ℕ)) (count : ℕ) : Type 0 where
-  pub below : (i : ℕ) → AreNumbersBelow n (row_of rows i)
-  pub shape : length rows ≤ m
-  pub counted : count ≡ sum_by length rows
-
-abbrev pub IsMarked : Marks → Type 0
-IsMarked s = AreRows s.agents s.columns s.rows.items s.count
-
--- a set of cells that has grown, over the same matrix
-abbrev pub IsGrown : Marks → Marks → Type 0
-IsGrown old new = IsMarked new × (new.agents ≡ old.agents) × (new.columns ≡ old.columns)

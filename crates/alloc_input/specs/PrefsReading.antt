@@ -1,5 +1,5 @@
 -- What the parts of the reader of preferences answer.
-use Rattle.std.specs.Prelude.{◌≡◌, ◌≤◌, ℕ, Bool, All, length, List, [], ◌∷◌, ◌++◌, Result, map, Vec, MatchResult}
+use Rattle.std.specs.Prelude.{◌≡◌, ◌==◌, ◌<◌, ◌≤◌, ℕ, Bool, All, length, List, [], ◌∷◌, ◌++◌, Result, map, Vec, MatchResult, slice_index}
 use Rattle.std.specs.List.{list_any}
 use Rattle.std.specs.Str.{bytes_eq}
 use Rattle.std.specs.declared.alloc.Global.{Global}
@@ -26,6 +26,15 @@ column_lists lists = map (λ list. list.items) lists.items
 -- the columns, and whether `none` ended the list, after these choices
 abbrev pub IsAfterChoices : List (List ℕ) → List (List ℕ) → List ℕ → Bool → Type 0
 IsAfterChoices objects earlier columns closed = (columns ≡ columns_of objects earlier) × (closed ≡ list_any (λ f. bytes_eq f null_name) earlier)
+
+-- for each object the number of the last agent, from 1, whose list has it, or 0; none is later than this agent
+pub record AreStamps (objects agent : ℕ) (stamps : List ℕ) : Type 0 where
+  pub wide : length stamps ≡ objects
+  pub early : (k : ℕ) → slice_index stamps k ≤ agent
+
+-- the objects with this agent's stamp are those on its list so far
+abbrev pub ShowList : ℕ → List ℕ → List ℕ → Type 0
+ShowList agent stamps columns = (k : ℕ) → k < length stamps → (slice_index stamps k == agent) ≡ list_any (λ j. j == k) columns
 
 -- one more choice, after any earlier ones that the columns stand for
 abbrev pub TakesChoice : List (List ℕ) → List ℕ → List ℕ → Bool → Result (Unit {0}) Stop → List ℕ → Bool → Type 0

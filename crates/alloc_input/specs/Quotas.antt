@@ -21,6 +21,7 @@ use Rattle.alloc_input.specs.declared.words.Word.TheVariants as word
 
 -- ---- quotas and limits
 
+-- a number of at most 1,000
 abbrev pub within_limit : Option ℕ → Option InputKind
 within_limit None = Some kind.BadNumber
 within_limit (Some n) = need (nat_le n 1000) kind.OverLimit
@@ -44,6 +45,7 @@ is_below (Some n) most = nat_lt n most
 
 -- ---- the checks of each kind, in order; the limits look at the sets after the record
 
+-- an `object` record: a known object that has none yet, and its quotas
 unfoldable pub object_words : Setting → Stated → Row → Option InputKind
 object_words g st row = first_of (
     need (is_name (field row 1)) kind.BadName
@@ -56,9 +58,11 @@ object_words g st row = first_of (
     ∷ need (nat_le (floor_at row 2) (ceiling_at row 3)) kind.FloorAboveCeiling
     ∷ [])
 
+-- and the limits with its set
 unfoldable pub check_object : Setting → Stated → Row → Option InputKind
 check_object g st row = option_or (object_words g st row) (check_limits (add_object g st row).sets)
 
+-- an `agent` record for `decompose`: a known agent that has none yet, and its quotas
 unfoldable pub row_words : Setting → Stated → Row → Option InputKind
 row_words g st row = first_of (
     need (is_name (field row 1)) kind.BadName
@@ -68,9 +72,11 @@ row_words g st row = first_of (
     ∷ need (nat_le (floor_at row 2) (ceiling_at row 3)) kind.FloorAboveCeiling
     ∷ [])
 
+-- and the limits with its set
 unfoldable pub check_row : Setting → Stated → Row → Option InputKind
 check_row g st row = option_or (row_words g st row) (check_limits (add_row g st row).sets)
 
+-- an `agent` record for `solve`: a known agent that has none yet, and a demand of at least 1
 unfoldable pub demand_words : Setting → Stated → Row → Option InputKind
 demand_words g st row = first_of (
     need (is_name (field row 1)) kind.BadName
@@ -96,6 +102,7 @@ check_member bundle names text =
 unfoldable pub check_members : Bool → List (List ℕ) → Row → Option InputKind
 check_members bundle names row = first_of (map (check_member bundle names) (drop 2 row))
 
+-- a `group` record: a new name, and agents
 unfoldable pub check_group : Setting → Stated → Row → Option InputKind
 check_group g st row = first_of (
     need (is_name (field row 1)) kind.BadName
@@ -104,6 +111,7 @@ check_group g st row = first_of (
     ∷ check_members false g.agents row
     ∷ [])
 
+-- a `bundle` record: a new name other than `none`, and objects
 unfoldable pub check_bundle : Setting → Stated → Row → Option InputKind
 check_bundle g st row = first_of (
     need (is_name (field row 1)) kind.BadName
@@ -113,6 +121,7 @@ check_bundle g st row = first_of (
     ∷ check_members (not false) g.objects row
     ∷ [])
 
+-- a `set` record: a new name, a side, and its quotas
 unfoldable pub set_words : Setting → Stated → Row → Option InputKind
 set_words g st row = first_of (
     need (is_name (field row 1)) kind.BadName
@@ -124,9 +133,11 @@ set_words g st row = first_of (
     ∷ need (nat_le (floor_at row 3) (ceiling_at row 4)) kind.FloorAboveCeiling
     ∷ [])
 
+-- and the limits with its set
 unfoldable pub check_set : Setting → Stated → Row → Option InputKind
 check_set g st row = option_or (set_words g st row) (check_limits (add_set g st row).sets)
 
+-- an `in` record: an earlier set, known agents and known columns
 unfoldable pub in_words : Setting → Stated → Row → Option InputKind
 in_words g st row = first_of (
     need (is_some (place_named st row)) kind.UnknownName
@@ -135,6 +146,7 @@ in_words g st row = first_of (
     ∷ need (is_some (columns_named g st row)) kind.UnknownName
     ∷ [])
 
+-- and the limits with its cells
 unfoldable pub check_in : Setting → Stated → Row → Option InputKind
 check_in g st row = option_or (in_words g st row) (check_limits (add_cells g st row).sets)
 

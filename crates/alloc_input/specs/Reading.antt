@@ -7,17 +7,20 @@ use Rattle.definitions.specs.Texts.{Row}
 use Rattle.alloc_input.specs.Checks.{Tells}
 use Rattle.alloc_input.specs.Stated.{Setting, Stated, stated_by}
 use Rattle.alloc_input.specs.Quotas.{quotas_fault}
-use Rattle.alloc_input.specs.Numbers.{marked_cells, IsMarked}
+use Rattle.alloc_input.specs.Marked.{marked_cells, IsMarked}
 use Rattle.alloc_input.specs.declared.faults.InputRefusal.{InputRefusal}
 use Rattle.alloc_input.specs.declared.open_sets.OpenSet.{OpenSet}
 use Rattle.alloc_input.specs.declared.quota_state.State.{State}
 
+-- an open set, as the definitions of quotas see it
 abbrev pub set_value : OpenSet → SetValue
 set_value s = record { side = s.side; floor = s.floor; ceiling = s.ceiling; cells = marked_cells s.marks }
 
+-- open sets, so seen
 abbrev pub values : List OpenSet → List SetValue
 values sets = map set_value sets
 
+-- lists of numbers, as contracts see them
 abbrev pub lists : List (Vec ℕ Global) → List (List ℕ)
 lists vs = map (λ v. v.items) vs
 
@@ -57,6 +60,7 @@ pub record IsCounted (m n : ℕ) (sets : List OpenSet) (total : ℕ) : Type 0 wh
   pub few : total ≤ 1000000
   pub many : length sets ≤ 1000
 
+-- the sets of a state over this matrix are open and counted
 abbrev pub IsSound : ℕ → ℕ → State → Type 0
 IsSound m n s = IsCounted m n s.sets.items s.total
 

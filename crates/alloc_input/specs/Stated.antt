@@ -34,10 +34,12 @@ pub record Stated : Type 0 where
   -- the demand of each agent
   pub demands : List ℕ
 
+-- whether a text is read for `solve`
 abbrev pub is_solve : Mode → Bool
 is_solve mode.Solve = true
 is_solve mode.Decompose = false
 
+-- these agents and objects
 abbrev pub setting_of : List (List ℕ) → List (List ℕ) → Bool → Setting
 setting_of agents objects solve = record { agents = agents; objects = objects; solve = solve }
 
@@ -58,6 +60,7 @@ word_of text =
 abbrev pub quota_of : ℕ → List ℕ → Option ℕ
 quota_of default text = if length text == 0 then Some default else count_of text
 
+-- its number, and 0 where the text is none
 unfoldable pub quota_at : ℕ → List ℕ → ℕ
 quota_at default text = unwrap_or (quota_of default text) 0
 
@@ -73,17 +76,20 @@ ceiling_at row k = quota_at 1000 (field row k)
 abbrev pub side_of : List ℕ → ℕ
 side_of text = if bytes_eq text (codes "1") then 1 else if bytes_eq text (codes "2") then 2 else 0
 
+-- what a number leads to, if there is one
 abbrev pub bind_number : {X : Type 0} → (ℕ → Option X) → Option ℕ → Option X
 bind_number f None = None
 bind_number f (Some n) = f n
 
--- the numbers of the members that a group or bundle names, from its third field on: each once, rising
+-- the number of the member that a field of a group or bundle names; an empty field names none
 abbrev pub member_of : List (List ℕ) → List ℕ → Option ℕ
 member_of names text = if length text == 0 then None else name_index names text
 
+-- those of some fields, each once, rising
 abbrev pub members_named : List (List ℕ) → List (List ℕ) → List ℕ
 members_named names fields = distinct_below (length names) (filter_map (member_of names) fields)
 
+-- those of a record, from its third field on
 abbrev pub members_of : List (List ℕ) → Row → List ℕ
 members_of names row = members_named names (drop 2 row)
 
@@ -98,10 +104,11 @@ numbers_named names labels lists text =
     if bytes_eq text (codes "*") then Some (numbers_to (length names))
     else listed (name_index names text) (bind_number (slice_get lists) (name_index labels text))
 
--- the agents and the columns of an `in` record
+-- the agents of an `in` record
 abbrev pub agents_named : Setting → Stated → Row → Option (List ℕ)
 agents_named g st row = numbers_named g.agents st.groups st.members (field row 2)
 
+-- the columns of an `in` record
 abbrev pub columns_named : Setting → Stated → Row → Option (List ℕ)
 columns_named g st row = numbers_named g.objects st.bundles st.contents (field row 3)
 
@@ -111,6 +118,7 @@ place_named st row = bind_number (slice_get st.places) (name_index st.names (fie
 
 -- ---- what a record adds
 
+-- a set without cells
 abbrev pub empty_set : ℕ → ℕ → ℕ → SetValue
 empty_set side floor ceiling = record { side = side; floor = floor; ceiling = ceiling; cells = [] }
 
@@ -118,6 +126,7 @@ empty_set side floor ceiling = record { side = side; floor = floor; ceiling = ce
 abbrev pub with_rectangle_in : ℕ → ℕ → List ℕ → List ℕ → SetValue → SetValue
 with_rectangle_in m n agents columns s = record { side = s.side; floor = s.floor; ceiling = s.ceiling; cells = with_rectangle m n agents columns s.cells }
 
+-- the same over the matrix of a setting
 abbrev pub with_rectangle_of : Setting → List ℕ → List ℕ → SetValue → SetValue
 with_rectangle_of g agents columns s = with_rectangle_in (length g.agents) (length g.objects) agents columns s
 
@@ -146,9 +155,11 @@ add_demand g st row = record st {
   demands = slice_set st.demands (number_or_0 (name_index g.agents (field row 1))) (floor_at row 2);
 }
 
+-- a group with its agents
 unfoldable pub add_group : Setting → Stated → Row → Stated
 add_group g st row = record st { groups = st.groups ++ field row 1 ∷ []; members = st.members ++ members_of g.agents row ∷ [] }
 
+-- a bundle with its objects
 unfoldable pub add_bundle : Setting → Stated → Row → Stated
 add_bundle g st row = record st { bundles = st.bundles ++ field row 1 ∷ []; contents = st.contents ++ members_of g.objects row ∷ [] }
 
@@ -189,6 +200,7 @@ unfoldable pub stated_from : Setting → Stated → List Row → Stated
 stated_from g st [] = st
 stated_from g st (r ∷ rs) = stated_from g (add_record g st r) rs
 
+-- what is stated of so many agents before any record
 abbrev pub nothing_of : ℕ → Stated
 nothing_of agents = record { columns = []; rows = []; groups = []; members = []; bundles = []; contents = []; names = []; places = []; sets = []; demands = replicate agents 1 }
 

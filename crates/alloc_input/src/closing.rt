@@ -1,5 +1,5 @@
 ghost use Rattle.std.specs.Prelude.{◌≡◌, ◌≤◌, ◌+◌, ◌++◌, ◌∷◌, [], All, IfOk, OnOk, if◌then◌else◌};
-ghost use Rattle.alloc_input.specs.Numbers.{IsMarked};
+ghost use Rattle.alloc_input.specs.Marked.{IsMarked};
 ghost use Rattle.alloc_input.specs.Reading.{AreQuotas, IsOpen, set_value, values};
 
 use crate::marks::list_cells;

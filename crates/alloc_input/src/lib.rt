@@ -3,10 +3,14 @@
 
 mod closing;
 mod declared;
+mod ending;
 mod faults;
 mod fields;
 mod laws;
 mod marks;
+mod matrix;
+#[cfg(test)]
+mod matrix_tests;
 mod mode;
 mod numbers;
 mod open_sets;
@@ -24,7 +28,8 @@ mod tests;
 mod words;
 
 pub use faults::{InputFault, InputKind, InputRefusal};
-pub use laws::lawful_quotas_suit;
+pub use laws::{lawful_matrices_suit, lawful_quotas_suit};
+pub use matrix::read_matrix;
 pub use mode::Mode;
 pub use problem::read_problem;
 pub use quotas::{read_demands, read_quotas};

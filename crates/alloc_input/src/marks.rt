@@ -1,12 +1,13 @@
-ghost use Rattle.std.specs.Prelude.{◌≡◌, ◌≤◌, ◌<◌, ◌+◌, ◌++◌, ◌∷◌, [], ℕ, None, length, map, nat_le, OnOk, IfOk};
+ghost use Rattle.std.specs.Prelude.{◌≡◌, ◌≤◌, ◌<◌, ◌+◌, ◌++◌, ◌∷◌, [], ℕ, None, length, map, nat_le, OnOk, IfOk, IfSome};
 ghost use Rattle.definitions.specs.Sets.{cell_of};
 ghost use Rattle.alloc_input.specs.Cells.{with_rectangle};
 ghost use Rattle.alloc_input.specs.Checks.{Checks, need};
-ghost use Rattle.alloc_input.specs.Numbers.{AddsNumbers, AreNumbersBelow, IsMarked, IsGrown, marked_cells, row_of};
+ghost use Rattle.alloc_input.specs.Marked.{IsMarked, IsGrown, marked_cells, row_of};
+ghost use Rattle.alloc_input.specs.Numbers.{AddsNumbers, AreNumbersBelow, AreSetIn};
 ghost use Rattle.alloc_input.specs.declared.faults.InputKind.TheVariants as kind;
 
 use crate::faults::{InputKind, Stop};
-use crate::numbers::NumberSet;
+use crate::numbers::{NumberSet, Plane, plane_of};
 use definitions::Cell;
 use quota_sets::NoMemory;
 use std::alloc::Global;
@@ -41,8 +42,10 @@ fn add_to_row(
     row: &mut NumberSet,
     below: u32,
     columns: &[u32],
+    plane: Option<Plane>,
     count: usize,
 ) -> Result<usize, NoMemory>
+    requires plane { IfSome plane (AreSetIn below columns.now) }
     requires below { AreNumbersBelow below row.old }
     requires part { length row.old ≤ count }
     requires few { count ≤ 1000000 }
@@ -54,14 +57,20 @@ fn add_to_row(
     if before == below as usize {
         return Ok(count);
     }
-    if row.add(below, columns).is_err() {
+    if row.add(below, columns, plane).is_err() {
         return Err(NoMemory);
     }
     Ok(count - before + row.len())
 }
 
 // Adds columns to the row of one agent.
-fn mark_agent(marks: &mut Marks, agent: u32, columns: &[u32]) -> Result<(), NoMemory>
+fn mark_agent(
+    marks: &mut Marks,
+    agent: u32,
+    columns: &[u32],
+    plane: Option<Plane>,
+) -> Result<(), NoMemory>
+    requires plane { IfSome plane (AreSetIn marks.old.columns columns.now) }
     requires marked { IsMarked marks.old }
     requires filled { length marks.old.rows.items ≡ marks.old.agents }
     requires few { marks.old.count ≤ 1000000 }
@@ -74,7 +83,8 @@ fn mark_agent(marks: &mut Marks, agent: u32, columns: &[u32]) -> Result<(), NoMe
     }
     let below = marks.columns;
     let count = marks.count;
-    let Ok(count) = add_to_row(&mut marks.rows[agent as usize], below, columns, count) else {
+    let row = &mut marks.rows[agent as usize];
+    let Ok(count) = add_to_row(row, below, columns, plane, count) else {
         return Err(NoMemory);
     };
     marks.count = count;
@@ -98,7 +108,14 @@ fn fill(alloc: Global, marks: &mut Marks) -> Result<(), NoMemory>
 }
 
 // Adds the cells of a rectangle, row by row, until there are more than so many.
-fn mark_rows(marks: &mut Marks, agents: &[u32], columns: &[u32], most: usize) -> Result<(), Stop>
+fn mark_rows(
+    marks: &mut Marks,
+    agents: &[u32],
+    columns: &[u32],
+    plane: Option<Plane>,
+    most: usize,
+) -> Result<(), Stop>
+    requires plane { IfSome plane (AreSetIn marks.old.columns columns.now) }
     requires marked { IsMarked marks.old }
     requires filled { length marks.old.rows.items ≡ marks.old.agents }
     requires within { marks.old.count ≤ most }
@@ -108,7 +125,7 @@ fn mark_rows(marks: &mut Marks, agents: &[u32], columns: &[u32], most: usize) ->
     ensures few { OnOk result (marks.new.count ≤ most) }
 {
     for agent in agents {
-        if mark_agent(marks, *agent, columns).is_err() {
+        if mark_agent(marks, *agent, columns, plane).is_err() {
             return Err(Stop::NoMemory);
         }
         if marks.count > most {
@@ -139,7 +156,8 @@ pub(crate) fn mark(
     if fill(alloc, marks).is_err() {
         return Err(Stop::NoMemory);
     }
-    mark_rows(marks, agents, columns, most)
+    let plane = plane_of(marks.columns, columns);
+    mark_rows(marks, agents, columns, plane, most)
 }
 
 // Adds the cells of one row to a list.

@@ -1,26 +1,43 @@
-ghost use Rattle.std.specs.Prelude.{◌≡◌, ◌≤◌, ◌<◌, ◌+◌, ◌||◌, ◌&&◌, ◌==◌, [], ◌++◌, ◌∷◌, ◌^◌, ℕ, length, map, nat_lt, OnOk, IfOk};
+ghost use Rattle.std.specs.Prelude.{◌≡◌, ◌≢◌, ◌≤◌, ◌<◌, ◌+◌, ◌||◌, ◌&&◌, ◌==◌, [], ◌++◌, ◌∷◌, ◌^◌, ℕ, length, map, nat_lt, replicate, OnOk, IfOk, IfSome, IsSomeAnd};
+ghost use Rattle.std.specs.Bool.{OnTrue};
 ghost use Rattle.definitions.specs.Sets.{cell_of};
 ghost use Rattle.alloc_input.specs.Cells.{has_number, distinct_below};
-ghost use Rattle.alloc_input.specs.Numbers.{AddsNumbers, AreNumbersBelow, IsRising};
+ghost use Rattle.alloc_input.specs.Numbers.{AddsNumbers, AreAmong, AreNumbersBelow, AreSetIn, IsRising};
+ghost use Rattle.plane_kernel.specs.Bits.{bit_of};
 
 use definitions::Cell;
+use plane_kernel::{set_bit, within};
 use quota_sets::NoMemory;
 use std::alloc::Global;
 use std::collections::BTreeSet;
 use std::marker::Model;
 
+/// How many words a plane has.
+const WORDS: usize = 4;
+
+/// How many bits these are.
+const PLACES: u32 = 256;
+
+/// Numbers below `PLACES`, each as the bit of its place.
+pub(crate) type Plane = [u64; WORDS];
+
 /// Numbers, each once, in rising order.
 #[derive(Drop)]
 pub(crate) struct NumberSet {
     set: BTreeSet<u32>,
+    // Those of the numbers that a plane can have. Where all that are to be added are in it, none is looked up.
+    known: Plane,
 }
 
 impl Model for NumberSet {
     ghost use Rattle.std.specs.Prelude.{List, ℕ};
+    ghost use Rattle.alloc_input.specs.Numbers.{AreAmong};
 
     ghost Value = { List ℕ };
 
     ghost view = { λ s. s.set.keys };
+
+    ghost invariant = { λ s. AreAmong s.set.keys s.known };
 }
 
 impl NumberSet {
@@ -29,6 +46,7 @@ impl NumberSet {
     {
         NumberSet {
             set: BTreeSet::new(alloc),
+            known: [0; WORDS],
         }
     }
 
@@ -46,6 +64,7 @@ impl NumberSet {
         if self.set.insert(number).is_err() {
             return Err(NoMemory);
         }
+        note(&mut self.known, number);
         Ok(())
     }
 
@@ -58,10 +77,24 @@ impl NumberSet {
         self.insert(number)
     }
 
-    /// Adds those of some numbers that are below a number.
-    pub fn add(&mut self, below: u32, numbers: &[u32]) -> Result<(), NoMemory>
+    // Whether there is a plane, and all its numbers are known to be there.
+    fn knows(&self, plane: Option<Plane>) -> bool
+        ensures { OnTrue result (IsSomeAnd plane (AreAmong self.now)) }
+    {
+        match plane {
+            Some(plane) => within(&plane, &self.known),
+            None => false,
+        }
+    }
+
+    /// Adds those of some numbers that are below a number. A plane of them saves looking them up where all are known.
+    pub fn add(&mut self, below: u32, numbers: &[u32], plane: Option<Plane>) -> Result<(), NoMemory>
+        requires { IfSome plane (AreSetIn below numbers.now) }
         ensures { OnOk result (AddsNumbers below numbers.now self.old self.new) }
     {
+        if self.knows(plane) {
+            return Ok(());
+        }
         for number in numbers {
             if self.insert_below(below, *number).is_err() {
                 return Err(NoMemory);
@@ -100,14 +133,61 @@ impl NumberSet {
     }
 }
 
+// Sets the bit of a number, if a plane has one for it.
+fn note(plane: &mut Plane, number: u32)
+    ensures { (j : ℕ) → bit_of plane.new j ≡ 1 → j ≢ number → bit_of plane.old j ≡ 1 }
+{
+    if number < PLACES {
+        set_bit(plane, number);
+    }
+}
+
+// Sets the bit of a number that is below another, and answers whether a plane can.
+fn put(plane: &mut Plane, below: u32, number: u32) -> bool
+    ensures kept { (j : ℕ) → bit_of plane.old j ≡ 1 → bit_of plane.new j ≡ 1 }
+    ensures set { OnTrue result (number < below → bit_of plane.new number ≡ 1) }
+{
+    if number >= below {
+        return true;
+    }
+    if number >= PLACES {
+        return false;
+    }
+    set_bit(plane, number);
+    true
+}
+
+/// A plane of those of some numbers that are below a number, if it can have them all.
+pub(crate) fn plane_of(below: u32, numbers: &[u32]) -> Option<Plane>
+    ensures { IfSome result (AreSetIn below numbers.now) }
+{
+    let mut plane = [0; WORDS];
+    for number in numbers {
+        if !put(&mut plane, below, *number) {
+            return None;
+        }
+    }
+    Some(plane)
+}
+
 /// Those of some numbers that are below a number, each once, in rising order.
 pub(crate) fn distinct(alloc: Global, below: u32, numbers: &[u32]) -> Result<Vec<u32>, NoMemory>
     ensures { IfOk result (λ v. v.items ≡ distinct_below below numbers.now) }
 {
     let mut set = NumberSet::new(alloc);
-    if set.add(below, numbers).is_err() {
+    if set.add(below, numbers, None).is_err() {
         return Err(NoMemory);
     }
     let _count = set.len();
     set.to_list(alloc)
+}
+
+/// So many copies of a number.
+pub(crate) fn copies(alloc: Global, number: u32, count: u32) -> Result<Vec<u32>, NoMemory>
+    ensures { IfOk result (λ v. v.items ≡ replicate count number) }
+{
+    match Vec::from_elem(alloc, number, count as usize) {
+        Ok(copies) => Ok(copies),
+        Err(_) => Err(NoMemory),
+    }
 }

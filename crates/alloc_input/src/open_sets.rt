@@ -1,7 +1,7 @@
-ghost use Rattle.std.specs.Prelude.{◌≡◌, ◌==◌, ◌<◌, ◌≤◌, ◌-◌, ◌+◌, ◌∷◌, ◌++◌, [], ℕ, None, length, nat_le, slice_set, sum, take, replicate, IfOk, OnOk};
+ghost use Rattle.std.specs.Prelude.{◌≡◌, ◌==◌, ◌<◌, ◌≤◌, ◌-◌, ◌+◌, ◌∷◌, ◌++◌, [], ℕ, None, length, nat_le, slice_set, sum, take, IfOk, OnOk};
 ghost use Rattle.alloc_input.specs.Cells.{numbers_to, with_rectangle};
 ghost use Rattle.alloc_input.specs.Checks.{Checks, need};
-ghost use Rattle.alloc_input.specs.Numbers.{IsGrown, IsMarked, marked_cells};
+ghost use Rattle.alloc_input.specs.Marked.{IsGrown, IsMarked, marked_cells};
 ghost use Rattle.alloc_input.specs.Stated.{empty_set, grown_at, with_rectangle_in};
 ghost use Rattle.alloc_input.specs.Quotas.{check_limits};
 ghost use Rattle.alloc_input.specs.Reading.{AreQuotas, IsCounted, IsOpen, set_value, values};
@@ -208,14 +208,4 @@ pub(crate) fn set_demand(demands: &mut Vec<u32>, agent: u32, demand: u32) -> Res
         return Err(Stop::Unlawful(InputKind::OverLimit));
     }
     Ok(())
-}
-
-/// A demand of 1 for each agent.
-pub(crate) fn ones(alloc: Global, n: u32) -> Result<Vec<u32>, NoMemory>
-    ensures { IfOk result (λ v. v.items ≡ replicate n 1) }
-{
-    match Vec::from_elem(alloc, 1u32, n as usize) {
-        Ok(ones) => Ok(ones),
-        Err(_) => Err(NoMemory),
-    }
 }

@@ -1,12 +1,13 @@
-ghost use Rattle.std.specs.Prelude.{◌≡◌, ◌==◌, ◌<◌, ◌∷◌, ◌++◌, [], length, IfOk};
-ghost use Rattle.std.specs.List.{list_any};
+ghost use Rattle.std.specs.Prelude.{◌≡◌, ◌==◌, ◌+◌, ◌<◌, ◌∷◌, ◌++◌, [], length, slice_index, IfOk, OnOk};
 ghost use Rattle.definitions.specs.Texts.{first_field};
 ghost use Rattle.alloc_input.specs.Prefs.{check_choices, check_agent, list_of};
 ghost use Rattle.alloc_input.specs.Checks.{Checks};
-ghost use Rattle.alloc_input.specs.PrefsReading.{ArePreferences, ReadsPreferences, TakesChoice, TakesRecord, column_lists};
+ghost use Rattle.alloc_input.specs.PrefsReading.{ArePreferences, AreStamps, ReadsPreferences, ShowList, TakesChoice, TakesRecord, column_lists};
 
-use crate::faults::{InputFault, InputKind, InputRefusal, Stop, refused};
+use crate::ending::check_ending;
+use crate::faults::{InputKind, InputRefusal, Stop, refused};
 use crate::fields::{add_name, is_null, is_text};
+use crate::numbers::copies;
 use crate::words::is_word;
 use quota_sets::Names;
 use std::alloc::Global;
@@ -27,21 +28,29 @@ pub(crate) struct State {
     pub lists: Vec<Vec<u32>>,
 }
 
-fn has_column(list: &[u32], column: u32) -> bool
-    ensures { result ≡ list_any (λ j. j == column) list.now }
+// Whether a column has this agent's stamp.
+fn is_stamped(stamps: &[u32], column: u32, agent: u32) -> bool
+    requires { column < length stamps.now }
+    ensures { result ≡ (slice_index stamps.now column == agent) }
 {
-    list.contains(&column)
+    stamps[column as usize] == agent
 }
 
-// Takes one more field of an agent's list.
+// Takes one more field of an agent's list. The columns on the list have the agent's stamp.
 #[tactic(auto, unfolding(crate::specs::Prefs::check_choice))]
 fn take_choice(
     field: &[u8],
     objects: &Names,
+    agent: u32,
+    stamps: &mut [u32],
     list: &mut Vec<u32>,
     closed: &mut bool,
 ) -> Result<(), Stop>
-    ensures { TakesChoice objects.now field.now list.old.items closed.old result list.new.items closed.new }
+    requires stamps { AreStamps (length objects.now) agent stamps.old }
+    requires shown { ShowList agent stamps.old list.old.items }
+    ensures taken { TakesChoice objects.now field.now list.old.items closed.old result list.new.items closed.new }
+    ensures stamps { OnOk result (AreStamps (length objects.now) agent stamps.new) }
+    ensures shown { OnOk result (ShowList agent stamps.new list.new.items) }
 {
     if field.is_empty() {
         return Ok(());
@@ -59,24 +68,36 @@ fn take_choice(
     let Some(column) = objects.find_bytes(field) else {
         return Err(Stop::Unlawful(InputKind::UnknownObject));
     };
-    if has_column(list.as_slice(), column) {
+    if is_stamped(stamps, column, agent) {
         return Err(Stop::Unlawful(InputKind::RepeatedChoice));
     }
     if list.push(column).is_err() {
         return Err(Stop::NoMemory);
     }
+    stamps[column as usize] = agent;
     Ok(())
 }
 
-// The columns of an agent's list.
-fn read_choices(alloc: Global, row: &Row, objects: &Names) -> Result<Vec<u32>, Stop>
-    requires { 0 < length row.now }
-    ensures { Checks result (check_choices objects.now row.now) (λ v. v.items ≡ list_of objects.now row.now) }
+// The columns of the list of an agent, after so many others.
+fn read_choices(
+    alloc: Global,
+    row: &Row,
+    objects: &Names,
+    others: u32,
+    stamps: &mut [u32],
+) -> Result<Vec<u32>, Stop>
+    requires some { 0 < length row.now }
+    requires few { others < 1000 }
+    requires stamps { AreStamps (length objects.now) others stamps.old }
+    ensures read { Checks result (check_choices objects.now row.now) (λ v. v.items ≡ list_of objects.now row.now) }
+    ensures stamps { OnOk result (AreStamps (length objects.now) (others + 1) stamps.new) }
 {
+    let agent = others + 1;
     let mut list = Vec::new(alloc);
     let mut closed = false;
     for j in 0..row.len() - 1 {
-        if let Err(stop) = take_choice(row.field(j + 1), objects, &mut list, &mut closed) {
+        let choice = row.field(j + 1);
+        if let Err(stop) = take_choice(choice, objects, agent, stamps, &mut list, &mut closed) {
             return Err(stop);
         }
     }
@@ -92,12 +113,15 @@ fn take_agent(
     alloc: Global,
     row: &Row,
     objects: &Names,
+    stamps: &mut [u32],
     agents: &mut Names,
     lists: &mut Vec<Vec<u32>>,
 ) -> Result<(), Stop>
-    requires { 0 < length row.now }
-    ensures { Checks result (check_agent objects.now agents.old row.now)
+    requires some { 0 < length row.now }
+    requires stamps { AreStamps (length objects.now) (length agents.old) stamps.old }
+    ensures taken { Checks result (check_agent objects.now agents.old row.now)
         (λ _. (agents.new ≡ agents.old ++ first_field row.now ∷ []) × (column_lists lists.new ≡ column_lists lists.old ++ list_of objects.now row.now ∷ [])) }
+    ensures stamps { OnOk result (AreStamps (length objects.now) (length agents.new) stamps.new) }
 {
     let Some(name) = name_of(row.field(0)) else {
         return Err(Stop::Unlawful(InputKind::BadName));
@@ -108,7 +132,8 @@ fn take_agent(
     if agents.len() >= 1000 {
         return Err(Stop::Unlawful(InputKind::OverLimit));
     }
-    let list = match read_choices(alloc, row, objects) {
+    let others = agents.len();
+    let list = match read_choices(alloc, row, objects, others, stamps) {
         Ok(list) => list,
         Err(stop) => return Err(stop),
     };
@@ -123,8 +148,16 @@ fn take_agent(
 
 // Takes one more record.
 #[tactic(auto, unfolding(crate::specs::Prefs::check_record))]
-fn take_record(alloc: Global, row: &Row, objects: &Names, state: &mut State) -> Result<(), Stop>
-    ensures { TakesRecord objects.now row.now state.old result state.new }
+fn take_record(
+    alloc: Global,
+    row: &Row,
+    objects: &Names,
+    stamps: &mut [u32],
+    state: &mut State,
+) -> Result<(), Stop>
+    requires { AreStamps (length objects.now) (length state.old.agents) stamps.old }
+    ensures taken { TakesRecord objects.now row.now state.old result state.new }
+    ensures stamps { OnOk result (AreStamps (length objects.now) (length state.new.agents) stamps.new) }
 {
     if row.is_empty() {
         return Ok(());
@@ -133,7 +166,14 @@ fn take_record(alloc: Global, row: &Row, objects: &Names, state: &mut State) -> 
         return Err(Stop::Unlawful(InputKind::NotUtf8));
     }
     if state.header {
-        return take_agent(alloc, row, objects, &mut state.agents, &mut state.lists);
+        return take_agent(
+            alloc,
+            row,
+            objects,
+            stamps,
+            &mut state.agents,
+            &mut state.lists,
+        );
     }
     if !is_word(row.field(0), b"agent") {
         return Err(Stop::Unlawful(InputKind::NoHeader));
@@ -156,27 +196,17 @@ pub(crate) fn read_preferences(
         agents: Names::new(alloc),
         lists: Vec::new(alloc),
     };
+    let objects_count = objects.len();
+    let Ok(mut stamps) = copies(alloc, 0, objects_count) else {
+        return Err(InputRefusal::NoMemory);
+    };
     for i in 0..rows.len() {
-        if let Err(stop) = take_record(alloc, rows.at(i), objects, &mut state) {
+        if let Err(stop) = take_record(alloc, rows.at(i), objects, &mut stamps, &mut state) {
             return Err(refused(stop, 1, i as u64 + 1));
         }
     }
-    let Some(record_no) = (rows.len() as u64).checked_add(1) else {
-        return Err(InputRefusal::NoMemory);
-    };
-    if !state.header {
-        return Err(InputRefusal::Fault(InputFault {
-            file: 1,
-            record_no,
-            kind: InputKind::NoHeader,
-        }));
-    }
-    if state.agents.len() == 0 {
-        return Err(InputRefusal::Fault(InputFault {
-            file: 1,
-            record_no,
-            kind: InputKind::NoAgents,
-        }));
+    if let Err(refusal) = check_ending(rows, state.header, &state.agents) {
+        return Err(refusal);
     }
     let State { agents, lists, .. } = state;
     Ok(Preferences { agents, lists })

@@ -7,7 +7,7 @@ ghost use Rattle.alloc_input.specs.Reading.{held, IsSound, ReadsRecords};
 use crate::faults::{InputKind, InputRefusal, Stop, refused};
 use crate::fields::{field_at, has_length, has_two, is_text};
 use crate::mode::Mode;
-use crate::open_sets::ones;
+use crate::numbers::copies;
 use crate::quota_records::{
     take_bundle, take_demand, take_group, take_in, take_object, take_row, take_set,
 };
@@ -96,7 +96,7 @@ fn no_records(alloc: Global, agents: u32) -> Result<State, NoMemory>
     ensures stated { IfOk result (λ s. held s ≡ nothing_of agents) }
     ensures sound { (m n : ℕ) → IfOk result (λ s. IsSound m n s) }
 {
-    let Ok(demands) = ones(alloc, agents) else {
+    let Ok(demands) = copies(alloc, 1, agents) else {
         return Err(NoMemory);
     };
     Ok(State {

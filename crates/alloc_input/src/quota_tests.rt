@@ -1,6 +1,9 @@
+ghost use Rattle.std.specs.Prelude.{◌≡◌, IfOk, length};
+ghost use Rattle.definitions.specs.Texts.{has_name, null_name};
+
 use super::*;
-use crate::quota_reading::read_quota_records;
-use quota_sets::Names;
+use crate::declared::declared_objects;
+use quota_sets::{Family, Names};
 use std::alloc::Global;
 use std::process::Abort;
 use std::test::Fail;
@@ -14,12 +17,65 @@ fn names_of(alloc: Global, list: &[&str]) -> Result<Names, Fail> {
     Ok(names)
 }
 
-// The refusal of a text of quotas over the agents u, v and x and the objects a and b.
-fn refusal_of(alloc: Global, text: &[u8], mode: Mode) -> Result<Option<InputRefusal>, Fail> {
-    let agents = names_of(alloc, &["u", "v", "x"])?;
-    let objects = names_of(alloc, &["a", "b"])?;
+fn names_none(objects: &Names) -> bool
+    ensures { result ≡ has_name objects.now null_name }
+{
+    objects.find("none").is_some()
+}
+
+// The agents u, v and x.
+fn three_agents(rt: &impl Abort, alloc: Global) -> Result<Names, Fail>
+    ensures { IfOk result (λ names. length names ≡ 3) }
+{
+    let names = names_of(alloc, &["u", "v", "x"])?;
+    assert!(rt; names.len() == 3);
+    Ok(names)
+}
+
+// The refusal of a text of quotas for `solve`, over those agents and the objects that it declares.
+fn refusal_of(rt: &impl Abort, alloc: Global, text: &[u8]) -> Result<Option<InputRefusal>, Fail> {
+    let agents = three_agents(rt, alloc)?;
     let rows = records(alloc, text)?;
-    Ok(read_quota_records(alloc, &rows, &agents, &objects, mode).err())
+    let objects = declared_objects(alloc, &rows)?;
+    assert!(rt; text.len() < 1000);
+    if names_none(&objects) {
+        return Err(Fail::new("an object is named none"));
+    }
+    Ok(read_quotas(alloc, text, &agents, &objects, Mode::Solve).err())
+}
+
+// The demands that a text of quotas states, over those agents and the objects that it declares.
+fn demands_of(
+    rt: &impl Abort,
+    alloc: Global,
+    text: &[u8],
+) -> Result<Result<Vec<u32>, InputRefusal>, Fail> {
+    let agents = three_agents(rt, alloc)?;
+    let rows = records(alloc, text)?;
+    let objects = declared_objects(alloc, &rows)?;
+    assert!(rt; text.len() < 1000);
+    if names_none(&objects) {
+        return Err(Fail::new("an object is named none"));
+    }
+    Ok(read_demands(alloc, text, &agents, &objects))
+}
+
+// The family that a text of quotas states for `decompose`, over those agents and the objects a and b.
+fn family_of(
+    rt: &impl Abort,
+    alloc: Global,
+    text: &[u8],
+) -> Result<Result<Family, InputRefusal>, Fail> {
+    let agents = three_agents(rt, alloc)?;
+    let objects = names_of(alloc, &["a", "b"])?;
+    assert!(rt; text.len() < 1000);
+    if objects.len() != 2 {
+        return Err(Fail::new("not two objects"));
+    }
+    if names_none(&objects) {
+        return Err(Fail::new("an object is named none"));
+    }
+    Ok(read_quotas(alloc, text, &agents, &objects, Mode::Decompose))
 }
 
 fn fault(record_no: u64, kind: InputKind) -> Option<InputRefusal> {
@@ -48,12 +104,9 @@ fn one_case_per_fault_of_quotas(rt: HostRuntime) -> Result<(), Fail> {
         (b"group,G,x\ngroup,G,u\n", 2, InputKind::RepeatedName),
     ];
     for (text, record_no, kind) in cases {
-        assert_eq!(rt;
-            refusal_of(rt.alloc(), text, Mode::Solve)?,
-            fault(record_no, kind)
-        );
+        assert_eq!(rt; refusal_of(&rt, rt.alloc(), text)?, fault(record_no, kind));
     }
-    let above = refusal_of(rt.alloc(), b"object,a,2,1\n", Mode::Decompose)?;
+    let above = family_of(&rt, rt.alloc(), b"object,a,2,1\n")?.err();
     assert_eq!(rt; above, fault(1, InputKind::FloorAboveCeiling));
     Ok(())
 }
@@ -72,25 +125,20 @@ fn demand_records(rt: HostRuntime) -> Result<(), Fail> {
         ),
     ];
     for (text, record_no, kind) in cases {
-        assert_eq!(rt;
-            refusal_of(rt.alloc(), text, Mode::Solve)?,
-            fault(record_no, kind)
-        );
+        let refusal = demands_of(&rt, rt.alloc(), text)?.err();
+        assert_eq!(rt; refusal, fault(record_no, kind));
     }
+    let demands = demands_of(&rt, rt.alloc(), b"object,a\nagent,v,2,2\n")??;
+    assert_eq!(rt; demands.as_slice(), [1, 2, 1].as_slice());
     Ok(())
 }
 
-// The sets that a text states over the agents u and v and the objects a and b.
 #[test]
 fn sets_of_a_text(rt: HostRuntime) -> Result<(), Fail> {
-    let alloc = rt.alloc();
-    let agents = names_of(alloc, &["u", "v"])?;
-    let objects = names_of(alloc, &["a", "b"])?;
     let text = b"agent,v,1,2\ngroup,G,v,u,v\nset,S,2,,3\nin,S,G,b\nin,S,v,a\nin,S,*,b\n";
-    let rows = records(alloc, text.as_slice())?;
-    let state = read_quota_records(alloc, &rows, &agents, &objects, Mode::Decompose)?;
-    assert_eq!(rt; state.total, 5);
-    assert_eq!(rt; state.sets.len(), 2);
-    assert_eq!(rt; state.sets[1].marks.count, 3);
+    let family = family_of(&rt, rt.alloc(), text)??;
+    assert_eq!(rt; family.len(), 2);
+    assert_eq!(rt; family.get(1).ok_or("no set 1")?.cells().len(), 2);
+    assert_eq!(rt; family.get(2).ok_or("no set 2")?.cells().len(), 4);
     Ok(())
 }

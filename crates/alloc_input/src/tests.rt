@@ -17,7 +17,7 @@ fn prefs_of(alloc: Global, prefs: &[u8], quotas: &[u8]) -> Result<Preferences, F
 }
 
 // A text with so many agents, each of whom lists nothing.
-fn many_agents(alloc: Global, count: u16) -> Result<Vec<u8>, Fail> {
+pub(crate) fn many_agents(alloc: Global, count: u16) -> Result<Vec<u8>, Fail> {
     let mut text = Vec::from_slice(alloc, b"agent\n")?;
     for i in 0..count {
         let line = format!(in alloc; "p{i}\n")?;
@@ -26,7 +26,7 @@ fn many_agents(alloc: Global, count: u16) -> Result<Vec<u8>, Fail> {
     Ok(text)
 }
 
-fn fault(record_no: u64, kind: InputKind) -> Option<InputRefusal> {
+pub(crate) fn fault(record_no: u64, kind: InputKind) -> Option<InputRefusal> {
     Some(InputRefusal::Fault(InputFault {
         file: 1,
         record_no,

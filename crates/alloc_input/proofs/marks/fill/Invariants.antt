@@ -1,5 +1,5 @@
 use Rattle.std.proofs.Common.{◌≡◌, length}
-use Rattle.alloc_input.specs.Numbers.{IsGrown, marked_cells}
+use Rattle.alloc_input.specs.Marked.{IsGrown, marked_cells}
 use Rattle.alloc_input.proofs.marks.fill.Given as goal
 
 abbrev pub invariant-loop-i : goal.invariant-loop-i

@@ -1,5 +1,5 @@
 use Rattle.std.proofs.Common.{◌≡◌}
-use Rattle.alloc_input.specs.Numbers.{cells_in_rows}
+use Rattle.alloc_input.specs.Marked.{cells_in_rows}
 use Rattle.alloc_input.proofs.marks.list_cells.Given as goal
 
 abbrev pub invariant-loop-i : goal.invariant-loop-i

@@ -10,13 +10,13 @@ returns-then-agent-marks-clause-cells c =
 pub returns-clause-cells : goal.returns-clause-cells
 returns-clause-cells c =
     let lt : c.args.agent < length c.args.marks.now.rows.items = omega (arith, c.requires.filled, c.if-agent-marks.false) in
-    let read = get_or_read c.args.marks.now.rows.items c.args.agent c.index_mut.result.now lt c.index_mut.ensures.value [] in
+    let read = get_or_read c.args.marks.now.rows.items c.args.agent c.index_mut-row.result.now lt c.index_mut-row.ensures.value [] in
     row_grown c.args.marks.now.agents c.args.marks.now.columns c.args.agent c.args.marks.now.rows.items c.args.columns.now c.add_to_row.new.row lt (rw read at c.in-Ok.ensures.adds)
 
 pub returns-clause-grown : goal.returns-clause-grown
 returns-clause-grown c =
     let lt : c.args.agent < length c.args.marks.now.rows.items = omega (arith, c.requires.filled, c.if-agent-marks.false) in
-    let read = get_or_read c.args.marks.now.rows.items c.args.agent c.index_mut.result.now lt c.index_mut.ensures.value [] in (
+    let read = get_or_read c.args.marks.now.rows.items c.args.agent c.index_mut-row.result.now lt c.index_mut-row.ensures.value [] in (
       rows_grown c.args.marks.now.agents c.args.marks.now.columns c.args.agent c.args.marks.now.rows.items c.args.columns.now c.add_to_row.new.row lt (rw read at c.in-Ok.ensures.adds)
           c.args.marks.now.count c.in-Ok.count c.requires.marked c.in-Ok.ensures.below (rw read at c.in-Ok.ensures.count),
       refl,

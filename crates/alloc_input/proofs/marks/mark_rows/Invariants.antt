@@ -1,6 +1,6 @@
 use Rattle.std.proofs.Common.{◌≡◌, ◌≤◌, length, take}
 use Rattle.alloc_input.specs.Cells.{with_rectangle}
-use Rattle.alloc_input.specs.Numbers.{IsGrown, marked_cells}
+use Rattle.alloc_input.specs.Marked.{IsGrown, marked_cells}
 use Rattle.alloc_input.proofs.marks.mark_rows.Given as goal
 
 abbrev pub invariant-loop-agent : goal.invariant-loop-agent

@@ -1,5 +1,6 @@
 use Rattle.std.proofs.Common.{◌≡◌, ◌∙◌, ◌<◌, ◌≤◌, sym, arith, length}
-use Rattle.alloc_input.proofs.GrowFacts.{stops_along, part_le, grown-past, grown-limits, grown-values, grown-counted}
+use Rattle.alloc_input.proofs.GrowFacts.{part_le, grown-past, grown-limits, grown-values, grown-counted}
+use Rattle.alloc_input.proofs.Stops.{stops_along}
 use Rattle.alloc_input.proofs.open_sets.grow.Goals as goal
 
 pub returns-then-at-len-clause-checked : goal.returns-then-at-len-clause-checked

@@ -1,6 +1,7 @@
 use Rattle.std.proofs.Common.{◌≡◌, ◌∙◌, ◌<◌, ◌≤◌, ◌+◌, sym, arith, length, ap, rules, true, refl}
 use Rattle.std.specs.Result.{is_ok}
-use Rattle.alloc_input.proofs.GrowFacts.{stops_along, limits-many, marks_count, pushed-limits, pushed-values, push-counted}
+use Rattle.alloc_input.proofs.GrowFacts.{limits-many, marks_count, pushed-limits, pushed-values, push-counted}
+use Rattle.alloc_input.proofs.Stops.{stops_along}
 use Rattle.alloc_input.proofs.open_sets.push_rectangle.Goals as goal
 
 pub returns-then-len-ge1000-clause-checked : goal.returns-then-len-ge1000-clause-checked

@@ -1,56 +1,60 @@
 use Rattle.std.proofs.Common.{◌≡◌, ◌∙◌, ◌<◌, ◌≤◌, ◌+◌, ◌≢◌, sym, refl, arith, length, [], take}
 use Rattle.std.proofs.lemmas.List.{take_all, take_more}
-use Rattle.definitions.proofs.FirstFaults.{fault-next, fault-here, fault-end, fault-at-end, number-here}
+use Rattle.definitions.proofs.FirstFaults.{fault-next, fault-here, fault-end, number-here}
 use Rattle.alloc_input.specs.Prefs.{filled_rows, check_record, check_end}
-use Rattle.alloc_input.proofs.FieldFacts.{refused-here}
-use Rattle.alloc_input.proofs.AfterRecords.{end-no-header, end-no-agents, end-lawful}
+use Rattle.alloc_input.proofs.Stops.{refused-here}
 use Rattle.alloc_input.proofs.LawfulLists.{preferences-lawful}
+use Rattle.alloc_input.proofs.Stamps.{no-stamps, written}
 use Rattle.alloc_input.proofs.prefs.read_preferences.Goals as goal
 
 pub loop-i-init : goal.loop-i-init
 unfolding filled_rows
-loop-i-init c = (refl, (refl, c.new.ensures, rw c.new-2.ensures.items refl))
+loop-i-init c = record {
+  lawful = refl;
+  after = (refl, c.new.ensures, rw c.new-2.ensures.items refl);
+  stamps = rw (c.new.ensures, c.in-Ok.ensures, c.len-objects_count.ensures.value) (no-stamps (length c.args.objects.now));
+}
 
 pub returns-in-Err-clause-exact : goal.returns-in-Err-clause-exact
 returns-in-Err-clause-exact c =
     let inv = c.loop-i.invariant in
     let lt : c.loop-i.i < length c.args.rows.now = omega (arith, c.len-i-end.ensures) in
-    let t = rw c.at.ensures at (c.in-Err.ensures (take c.loop-i.i c.args.rows.now) inv.1) in
-    refused-here _ _ _ _ _ _ (λ k e. inv.0 ∙ fault-here (check_record c.args.objects.now) check_end c.args.rows.now c.loop-i.i [] k lt e ∙ rw (number-here c.args.rows.now c.loop-i.i lt) refl) t c.refused.ensures
+    let t = rw c.at.ensures at (c.in-Err.ensures.taken (take c.loop-i.i c.args.rows.now) inv.after) in
+    refused-here _ _ _ _ _ _ (λ k e. inv.lawful ∙ fault-here (check_record c.args.objects.now) check_end c.args.rows.now c.loop-i.i [] k lt e ∙ rw (number-here c.args.rows.now c.loop-i.i lt) refl) t c.refused.ensures
 
 pub loop-i-preserved : goal.loop-i-preserved
 loop-i-preserved c =
     let inv = c.loop-i.invariant in
     let lt : c.loop-i.i < length c.args.rows.now = omega (arith, c.len-i-end.ensures) in
-    let t = rw c.at.ensures at (c.in_default.ensures (take c.loop-i.i c.args.rows.now) inv.1) in
-    (inv.0 ∙ fault-next (check_record c.args.objects.now) check_end c.args.rows.now c.loop-i.i [] lt t.0, rw (take_more c.args.rows.now c.loop-i.i [] lt) t.1)
+    let t = rw c.at.ensures at (c.in_default-take_record.ensures.taken (take c.loop-i.i c.args.rows.now) inv.after) in
+    record {
+      lawful = inv.lawful ∙ fault-next (check_record c.args.objects.now) check_end c.args.rows.now c.loop-i.i [] lt t.0;
+      after = rw (take_more c.args.rows.now c.loop-i.i [] lt) t.1;
+      stamps = (let stamps = c.in_default-take_record.ensures.stamps in
+          let wide : c.loop-i.stamps.len ≡ length c.take_record.new.stamps = omega (arith, stamps.wide, inv.stamps.wide, c.loop-i.stamps.ok.0) in
+          rw (written c.loop-i.stamps.len c.take_record.new.stamps _ wide) stamps);
+    }
 
-pub returns-then-not-state-clause-exact : goal.returns-then-not-state-clause-exact
-returns-then-not-state-clause-exact c =
+pub check_ending-requires : goal.check_ending-requires
+check_ending-requires c =
     let inv = c.loop-i.invariant in
     let le : length c.args.rows.now ≤ c.loop-i.i = omega (arith, c.len-i-end.ensures) in
-    let after = rw (take_all c.loop-i.i c.args.rows.now le) at inv.1 in
-    let n : c.in-Some.record_no ≡ length c.args.rows.now + 1 = rw c.len.ensures at c.in-Some.ensures.1 in
-    (refl, inv.0 ∙ fault-at-end (check_record c.args.objects.now) check_end c.args.rows.now c.loop-i.i _ _ le n (end-no-header _ _ c.loop-i.state c.if-not-state.true after))
+    let after = rw (take_all c.loop-i.i c.args.rows.now le) at inv.after in
+    record { header = after.0; agents = after.1 }
 
-pub returns-then-len-eq0-clause-exact : goal.returns-then-len-eq0-clause-exact
-returns-then-len-eq0-clause-exact c =
-    let inv = c.loop-i.invariant in
+pub returns-in-Err-check_ending-clause-exact : goal.returns-in-Err-check_ending-clause-exact
+returns-in-Err-check_ending-clause-exact c =
     let le : length c.args.rows.now ≤ c.loop-i.i = omega (arith, c.len-i-end.ensures) in
-    let after = rw (take_all c.loop-i.i c.args.rows.now le) at inv.1 in
-    let n : c.in-Some.record_no ≡ length c.args.rows.now + 1 = rw c.len.ensures at c.in-Some.ensures.1 in
-    let none : length c.loop-i.state.agents ≡ 0 = omega arith in
-    (refl, inv.0 ∙ fault-at-end (check_record c.args.objects.now) check_end c.args.rows.now c.loop-i.i _ _ le n (end-no-agents _ _ c.loop-i.state c.if-not-state.false none after))
+    let ends = c.loop-i.invariant.lawful ∙ fault-end (check_record c.args.objects.now) check_end c.args.rows.now c.loop-i.i le in
+    rw ends c.in-Err-check_ending.ensures
 
 pub returns-clause-exact : goal.returns-clause-exact
 returns-clause-exact c =
     let inv = c.loop-i.invariant in
     let le : length c.args.rows.now ≤ c.loop-i.i = omega (arith, c.len-i-end.ensures) in
-    let after = rw (take_all c.loop-i.i c.args.rows.now le) at inv.1 in
-    let some : length c.loop-i.state.agents ≢ 0 = λ z. c.if-len-eq0.false (omega arith) in
-    let lawful = end-lawful _ _ c.loop-i.state c.if-not-state.false some after in
+    let after = rw (take_all c.loop-i.i c.args.rows.now le) at inv.after in
     record {
-      lawful = inv.0 ∙ fault-end (check_record c.args.objects.now) check_end c.args.rows.now c.loop-i.i le ∙ rw lawful refl;
+      lawful = inv.lawful ∙ fault-end (check_record c.args.objects.now) check_end c.args.rows.now c.loop-i.i le ∙ rw c.in_default-check_ending.ensures refl;
       agents_read = after.1;
       lists_read = after.2;
     }
@@ -59,8 +63,6 @@ pub returns-clause-lawful : goal.returns-clause-lawful
 returns-clause-lawful c =
     let inv = c.loop-i.invariant in
     let le : length c.args.rows.now ≤ c.loop-i.i = omega (arith, c.len-i-end.ensures) in
-    let after = rw (take_all c.loop-i.i c.args.rows.now le) at inv.1 in
-    let some : length c.loop-i.state.agents ≢ 0 = λ z. c.if-len-eq0.false (omega arith) in
-    let lawful = end-lawful _ _ c.loop-i.state c.if-not-state.false some after in
-    let none = inv.0 ∙ fault-end (check_record c.args.objects.now) check_end c.args.rows.now c.loop-i.i le ∙ rw lawful refl in
+    let after = rw (take_all c.loop-i.i c.args.rows.now le) at inv.after in
+    let none = inv.lawful ∙ fault-end (check_record c.args.objects.now) check_end c.args.rows.now c.loop-i.i le ∙ rw c.in_default-check_ending.ensures refl in
     rw (after.1, after.2) (preferences-lawful c.args.objects.now c.args.rows.now none)

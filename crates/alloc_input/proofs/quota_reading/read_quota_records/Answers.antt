@@ -4,7 +4,8 @@ use Rattle.definitions.proofs.FirstFaults.{fault-next, fault-here, fault-end, nu
 use Rattle.alloc_input.specs.Stated.{setting_of, stated_from, nothing_of}
 use Rattle.alloc_input.specs.Quotas.{check_record}
 use Rattle.alloc_input.specs.Reading.{held}
-use Rattle.alloc_input.proofs.Reading.{stated_next, refused_here}
+use Rattle.alloc_input.proofs.Reading.{stated_next}
+use Rattle.alloc_input.proofs.Stops.{refused-here}
 use Rattle.alloc_input.proofs.quota_reading.read_quota_records.Goals as goal
 
 pub loop-i-init : goal.loop-i-init
@@ -18,7 +19,7 @@ returns-in-Err-clause-reads c =
     let inv = c.loop-i.invariant in
     let lt : c.loop-i.i < length c.args.rows.now = omega (arith, c.len-i-end.ensures) in
     let t = rw (inv.1, c.at.ensures) at c.in-Err.ensures.checked in
-    let told = refused_here _ _ _ _ _ _ (λ k e. inv.0 ∙ fault-here (check_record g) (λ _. None) c.args.rows.now c.loop-i.i [] k lt e ∙ rw (number-here c.args.rows.now c.loop-i.i lt) refl) t c.refused.ensures in
+    let told = refused-here _ _ _ _ _ _ (λ k e. inv.0 ∙ fault-here (check_record g) (λ _. None) c.args.rows.now c.loop-i.i [] k lt e ∙ rw (number-here c.args.rows.now c.loop-i.i lt) refl) t c.refused.ensures in
     rw (← c.is_solve-solve.ensures) told
 
 pub loop-i-preserved : goal.loop-i-preserved

@@ -1,7 +1,12 @@
 use Rattle.std.proofs.Common.{◌≡◌, ◌∙◌, ◌||◌, ◌==◌, sym, ap, false}
 use Rattle.alloc_input.specs.Cells.{has_number}
-use Rattle.alloc_input.proofs.NumberFacts.{has-insert, on_ok}
+use Rattle.alloc_input.proofs.NumberFacts.{among-insert, has-insert, on_ok}
 use Rattle.alloc_input.proofs.numbers.NumberSet.insert.Goals as goal
+
+pub invariant_of-self-2 : goal.invariant_of-self-2
+invariant_of-self-2 c =
+    let keys = on_ok _ c.insert.result (sym c.is_err.ensures.value ∙ c.if-is_err.false) c.insert.ensures.keys in
+    rw keys (among-insert c.self.inside.set.keys c.args.number c.self.inside.known c.note.new.plane c.self.invariant c.note.ensures)
 
 pub returns : goal.returns
 returns c = λ j.

@@ -1,0 +1,76 @@
+#!/bin/bash
+# Writes inputs of a given size into a folder, always the same ones, for measuring. It is no part of the gate.
+#   bench/inputs.sh lists AGENTS OBJECTS FOLDER   lists.csv and quotas.csv: lists of up to five objects in a random order; each
+#                                                 object takes its part of the agents, at most half of them of odd number
+#   bench/inputs.sh equal N FOLDER                shares.csv and quotas.csv: N agents have equal chances of N objects, one each
+#   bench/inputs.sh shares TABLE QUOTAS FOLDER    shares.csv and quotas.csv: the shares of an eating table, under its quotas and at
+#                                                 most one unit for each agent
+set -eu
+
+made_lists() {
+    awk -v agents="$1" -v objects="$2" '
+        function next_number() { state = state * 16807 % 2147483647; return state }
+        BEGIN {
+            state = 1
+            length_of_list = objects < 5 ? objects : 5
+            print "agent,choices"
+            for (i = 1; i <= agents; i++) {
+                for (a = 1; a <= objects; a++) order[a] = a
+                line = "p" i
+                for (j = 1; j <= length_of_list; j++) {
+                    k = j + next_number() % (objects - j + 1)
+                    kept = order[j]; order[j] = order[k]; order[k] = kept
+                    line = line ",s" order[j]
+                }
+                print line
+            }
+        }'
+}
+
+made_quotas() {
+    awk -v agents="$1" -v objects="$2" '
+        BEGIN {
+            places = int((agents + objects - 1) / objects)
+            half = places < 2 ? 1 : int(places / 2)
+            for (a = 1; a <= objects; a++) print "object,s" a ",," places
+            printf "group,odd"
+            for (i = 1; i <= agents; i += 2) printf ",p" i
+            print ""
+            for (a = 1; a <= objects; a++) print "set,odd s" a ",2,," half "\nin,odd s" a ",odd,s" a
+        }'
+}
+
+equal_shares() {
+    awk -v n="$1" '
+        BEGIN {
+            printf "agent"; for (a = 1; a <= n; a++) printf ",s" a; print ""
+            for (i = 1; i <= n; i++) { printf "p" i; for (a = 1; a <= n; a++) printf ",1/" n; print "" }
+        }'
+}
+
+equal_quotas() {
+    awk -v n="$1" '
+        BEGIN {
+            for (a = 1; a <= n; a++) print "object,s" a ",1,1"
+            for (i = 1; i <= n; i++) print "agent,p" i ",1,1"
+        }'
+}
+
+table_shares() {
+    awk -F, '
+        $1 == "denominator" { denominator = $2 }
+        $1 == "objects" { printf "agent"; for (a = 2; a < NF; a++) printf ",%s", $a; print "" }
+        $1 == "row" { printf "%s", $2; for (a = 3; a < NF; a++) printf ",%s", $a == "0" ? "" : $a "/" denominator; print "" }' "$1"
+}
+
+table_quotas() {
+    cat "$2"
+    awk -F, '$1 == "row" { print "agent," $2 ",,1" }' "$1"
+}
+
+case "${1-}" in
+    lists) mkdir -p "$4"; made_lists "$2" "$3" >"$4/lists.csv"; made_quotas "$2" "$3" >"$4/quotas.csv" ;;
+    equal) mkdir -p "$3"; equal_shares "$2" >"$3/shares.csv"; equal_quotas "$2" >"$3/quotas.csv" ;;
+    shares) mkdir -p "$4"; table_shares "$2" >"$4/shares.csv"; table_quotas "$2" "$3" >"$4/quotas.csv" ;;
+    *) echo "usage: bench/inputs.sh lists AGENTS OBJECTS FOLDER | equal N FOLDER | shares TABLE QUOTAS FOLDER" >&2; exit 2 ;;
+esac

@@ -1,0 +1,4 @@
+mod Collected
+pub mod Given
+mod Gives
+mod Steps

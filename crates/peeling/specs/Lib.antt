@@ -1,0 +1,2 @@
+pub mod Peelers
+pub mod Views

@@ -1,35 +1,21 @@
 -- The fields of a record, one after the other.
-use Rattle.std.proofs.Common.{◌≡◌, ◌∙◌, ◌+◌, ◌<◌, ◌≤◌, [], ℕ, List, Option, Some, None, refl, sym, length, get_or, take, drop, arith}
-use Rattle.std.proofs.lemmas.List.{get_or-drop}
-use Rattle.definitions.specs.Firsts.{fault_after, first_among}
+use Rattle.std.proofs.Common.{◌≡◌, ◌<◌, [], ℕ, List, Option, Some, length, get_or, take}
+use Rattle.definitions.specs.Firsts.{first_among}
 use Rattle.lottery_file.specs.Reading.{StopsAt, IsRefusalFor, Tells}
 use Rattle.lottery_file.specs.declared.faults.LotteryRefusal.{LotteryRefusal}
 use Rattle.lottery_file.specs.declared.faults.LotteryKind.{LotteryKind}
 use Rattle.lottery_file.specs.declared.faults.Stop.{Stop}
 use Rattle.lottery_file.specs.declared.faults.Stop.TheVariants as stop
-use Rattle.definitions.proofs.FirstFaults.{fault-next, fault-here, fault-end}
+use Rattle.definitions.proofs.Passed.{IsLawfulTo, among-here}
 
 pub stops-here : (s : Stop) (a b : Option LotteryKind) → ((k : LotteryKind) → a ≡ Some k → b ≡ Some k) → StopsAt s a → StopsAt s b
 stops-here (stop.Unlawful k) a b f h = f k h
 stops-here stop.NoMemory a b f h = tt
 
-pub field-after : (row : List (List ℕ)) (n j : ℕ) → get_or row (j + n) [] ≡ get_or (drop n row) j []
-field-after row n j = let e : j + n ≡ n + j = omega arith in rw e (sym (get_or-drop n row j []))
-
--- the fields are lawful as far as the first j of them
-abbrev pub IsLawfulTo : (List (List ℕ) → List ℕ → Option LotteryKind) → List (List ℕ) → ℕ → Type 0
-IsLawfulTo check fs j = fault_after check (λ _. None) [] fs ≡ fault_after check (λ _. None) (take j fs) (drop j fs)
-
-pub among-here : (check : List (List ℕ) → List ℕ → Option LotteryKind) (fs : List (List ℕ)) (j : ℕ) (s : Stop) → j < length fs
+-- a field that stops the reading stops that of them all
+pub field-stops : (check : List (List ℕ) → List ℕ → Option LotteryKind) (fs : List (List ℕ)) (j : ℕ) (s : Stop) → j < length fs
     → IsLawfulTo check fs j → StopsAt s (check (take j fs) (get_or fs j [])) → StopsAt s (first_among check fs)
-among-here check fs j s lt inv h = stops-here s (check (take j fs) (get_or fs j [])) (first_among check fs) (λ k e. rw (inv ∙ fault-here check (λ _. None) fs j [] k lt e) refl) h
-
-pub among-next : (check : List (List ℕ) → List ℕ → Option LotteryKind) (fs : List (List ℕ)) (j : ℕ) → j < length fs
-    → IsLawfulTo check fs j → check (take j fs) (get_or fs j []) ≡ None → IsLawfulTo check fs (j + 1)
-among-next check fs j lt inv h = inv ∙ fault-next check (λ _. None) fs j [] lt h
-
-pub among-all : (check : List (List ℕ) → List ℕ → Option LotteryKind) (fs : List (List ℕ)) (j : ℕ) → length fs ≤ j → IsLawfulTo check fs j → first_among check fs ≡ None
-among-all check fs j le inv = rw (inv ∙ fault-end check (λ _. None) fs j le) refl
+field-stops check fs j s lt inv h = stops-here s (check (take j fs) (get_or fs j [])) (first_among check fs) (λ k e. among-here check fs j [] k lt inv e) h
 
 pub refused-here : (s : Stop) (n : ℕ) (r : LotteryRefusal) (a : Option LotteryKind) (f : Option (ℕ × LotteryKind)) → ((k : LotteryKind) → a ≡ Some k → f ≡ Some (n, k)) → StopsAt s a → IsRefusalFor s n r → Tells r f
 refused-here (stop.Unlawful k) n r a f g h e = rw e (g k h)

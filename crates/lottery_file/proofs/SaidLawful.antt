@@ -6,6 +6,7 @@ use Rattle.std.specs.Prelude.{codes}
 use Rattle.std.specs.Str.{bytes_eq}
 use Rattle.definitions.specs.Texts.{Row, field, first_field, signed, null_name}
 use Rattle.definitions.specs.Values.{PieceValue}
+use Rattle.definitions.proofs.Passed.{fault-keeps}
 use Rattle.lottery_file.specs.Said.{Before, nothing, word_of, add, add_word, with_place, column_at, said_from, said_by}
 use Rattle.lottery_file.specs.Checks.{check_next, check_kind, check_record, check_end, may_follow, fault_of}
 use Rattle.lottery_file.specs.Records.{begins_with, records_of, place_of, pieces_along, pieces_in, lists_in, worths_in}
@@ -14,7 +15,6 @@ use Rattle.lottery_file.specs.declared.words.Word.TheVariants as word
 use Rattle.lottery_file.proofs.RecordFacts.{said_from-more}
 use Rattle.lottery_file.proofs.SoundWords.{IsSound, IsFilled, stage}
 use Rattle.lottery_file.proofs.SoundChecks.{next-passed, follows-Lottery, follows-Denominator, follows-Agents, follows-Objects}
-use Rattle.lottery_file.proofs.SoundFields.{fault-keeps}
 use Rattle.lottery_file.proofs.Sound.{field-passed, ended-stage, said-ended, sound-next, sound-nothing, sound-said}
 use Rattle.lottery_file.proofs.SaidWords.{name_of, is_kind, kind-test}
 use Rattle.lottery_file.proofs.SaidFacts.{agents-said, columns-said}

@@ -5,6 +5,7 @@ use Rattle.std.specs.Prelude.{◌==◌, IsSome, MatchOption}
 use Rattle.definitions.specs.Texts.{Row, first_field}
 use Rattle.definitions.specs.Values.{PricesValue}
 use Rattle.definitions.specs.Lotteries.{LotteryValue, ends_with_none}
+use Rattle.definitions.proofs.Passed.{fault-keeps, fault-ends}
 use Rattle.lottery_file.specs.Said.{Before, nothing, word_of, add_word, said_from, said_by}
 use Rattle.lottery_file.specs.Checks.{check_next, check_kind, check_record, check_end, is_ended, is_priced, fault_of}
 use Rattle.lottery_file.specs.Lotteries.{IsLawfulLottery, IsPriced, lottery_of}
@@ -14,7 +15,6 @@ use Rattle.lottery_file.specs.declared.faults.LotteryKind.TheVariants as kind
 use Rattle.lottery_file.specs.declared.words.Word.{Word}
 use Rattle.lottery_file.proofs.RecordFacts.{said_from-more}
 use Rattle.lottery_file.proofs.SoundChecks.{next-passed}
-use Rattle.lottery_file.proofs.SoundFields.{fault-keeps, fault-ends}
 use Rattle.lottery_file.proofs.SoundNames.{no-names, no-columns, priced-ends}
 use Rattle.lottery_file.proofs.SoundKinds.{body-blank, sound-word}
 

@@ -1,5 +1,5 @@
 -- What a record that passes its check keeps to.
-use Rattle.std.proofs.Common.{◌≡◌, ◌+◌, ◌*◌, ◌^◌, ◌<◌, ◌≤◌, ◌||◌, ℕ, List, Option, Some, None, Bool, true, false, cond, refl, length, drop, sum, arith, eqb, ltb, inl, inr}
+use Rattle.std.proofs.Common.{◌≡◌, ◌+◌, ◌*◌, ◌^◌, ◌<◌, ◌≤◌, ◌||◌, ℕ, List, Option, Some, None, true, false, length, drop, sum, arith, eqb, ltb, inl, inr}
 use Rattle.std.specs.Prelude.{is_some, is_none, nat_abs}
 use Rattle.std.specs.List.{list_any}
 use Rattle.std.specs.Str.{bytes_eq}
@@ -7,17 +7,12 @@ use Rattle.std.proofs.lemmas.Bool.{leb-true, leb-false, ltb-true, both_ways, eqb
 use Rattle.std.proofs.lemmas.Bool.Decides.{nat_tests}
 use Rattle.definitions.specs.Texts.{Row, null_name, is_name, name_index, field, number, signed}
 use Rattle.definitions.specs.Firsts.{first_among}
+use Rattle.definitions.proofs.Passed.{passed}
 use Rattle.lottery_file.specs.Said.{Before, agent_at, column_at}
 use Rattle.lottery_file.specs.Checks.{weight_sum, follows_last, check_denominator, check_agents, check_agent_name, check_column_name, check_entry, check_entries, check_row, check_price, check_worth, check_piece, check_give, check_end_record, check_kind, check_word, may_follow, is_due, is_priced}
 use Rattle.lottery_file.proofs.SoundWords.{stage}
-use Rattle.lottery_file.specs.declared.faults.LotteryKind.{LotteryKind}
 use Rattle.lottery_file.specs.declared.words.Word.{Word}
 use Rattle.lottery_file.specs.declared.words.Word.TheVariants as word
-
--- a test that is passed, and what comes after it
-passed : (t : Bool) (k : LotteryKind) (after : Option LotteryKind) → cond t after (Some k) ≡ None → (t ≡ true) × (after ≡ None)
-passed true k after e = (refl, e)
-passed false k after e = absurd (cc)
 
 pub denominator-passed : (row : Row) → check_denominator row ≡ None → (1 ≤ number (field row 1)) × (number (field row 1) ≤ 2 ^ 116)
 unfolding check_denominator

@@ -14,10 +14,10 @@ use Rattle.std.proofs.lemmas.Slice.Eq.{bytes_eq-Decides}
 use Rattle.definitions.specs.Texts.{null_name, is_name, name_index}
 use Rattle.definitions.specs.Lotteries.{ends_with_none}
 use Rattle.definitions.specs.Firsts.{first_among}
+use Rattle.definitions.proofs.Passed.{among-keeps}
 use Rattle.lottery_file.specs.Checks.{check_agent_name, check_column_name}
 use Rattle.lottery_file.specs.Lotteries.{AreLawfulNames, AreColumns}
 use Rattle.lottery_file.proofs.SoundChecks.{agent-name-passed, column-name-passed}
-use Rattle.lottery_file.proofs.SoundFields.{among-keeps}
 
 -- a name that isn't found is none of them
 pub name-unknown : (names : List (List ℕ)) (name : List ℕ) → is_none (name_index names name) ≡ true → (k : ℕ) (d : List ℕ) → k < length names → get_or names k d ≢ name

@@ -3,11 +3,11 @@ use Rattle.std.proofs.Common.{◌≡◌, ◌+◌, ◌*◌, ◌≤◌, ◌∙◌,
 use Rattle.std.proofs.lemmas.List.{length-append, length-map, length-drop, map_push}
 use Rattle.std.proofs.lemmas.List.Sums.{sum_by-append, sum_by_push}
 use Rattle.definitions.specs.Texts.{Row, number}
+use Rattle.definitions.proofs.Passed.{among-keeps}
 use Rattle.lottery_file.specs.Said.{Before}
 use Rattle.lottery_file.specs.Checks.{check_entry, check_entries, check_row}
 use Rattle.lottery_file.proofs.SoundWords.{AreUnits}
 use Rattle.lottery_file.proofs.SoundChecks.{entry-passed, row-passed}
-use Rattle.lottery_file.proofs.SoundFields.{among-keeps}
 
 -- entries that pass stay within the limit, together with those before them
 pub entries-within : (limit total : ℕ) (fields : List (List ℕ)) → total ≤ limit → check_entries limit total fields ≡ None → total + sum (map number fields) ≤ limit

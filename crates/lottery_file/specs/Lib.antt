@@ -5,3 +5,4 @@ pub mod Lotteries
 pub mod Records
 pub mod Reading
 pub mod Written
+pub mod Buffers

@@ -1,6 +1,7 @@
 -- A lottery as one value, and how a text reads as one.
-use Rattle.std.specs.Prelude.{◌≡◌, ◌≢◌, ◌+◌, ◌-◌, ◌<◌, ◌≤◌, ◌^◌, ℕ, ℤ, true, List, [], Some, None, All, AllPairs, MatchOption, length, map, option_map, if◌then◌else◌, nat_abs, slice_get}
+use Rattle.std.specs.Prelude.{◌≡◌, ◌≢◌, ◌+◌, ◌-◌, ◌<◌, ◌≤◌, ◌^◌, ℕ, ℤ, true, List, [], Some, None, Vec, All, AllPairs, MatchOption, length, map, option_map, if◌then◌else◌, nat_abs, slice_get}
 use Rattle.std.specs.List.{AllZip}
+use Rattle.std.specs.declared.alloc.Global.{Global}
 use Rattle.definitions.specs.Lotteries.{LotteryValue, IsLottery, ends_with_none}
 use Rattle.definitions.specs.Texts.{Row, null_name, is_name}
 use Rattle.definitions.specs.Values.{PricesValue, prices_value, piece_value}
@@ -12,13 +13,17 @@ use Rattle.lottery_file.specs.declared.faults.LotteryKind.{LotteryKind}
 use Rattle.lottery_file.specs.declared.faults.LotteryRefusal.{LotteryRefusal}
 use Rattle.lottery_file.specs.declared.faults.LotteryRefusal.TheVariants as refusal
 
+-- the columns of each list
+abbrev pub lists_value : List (Vec ℕ Global) → List (List ℕ)
+lists_value lists = map (λ list. list.items) lists
+
 -- what clients see of a lottery
 abbrev pub lottery_value : Lottery → LotteryValue
 lottery_value l = record {
   agents = l.agents;
   columns = l.columns;
   shares = l.shares;
-  lists = map (λ list. list.items) l.lists.items;
+  lists = lists_value l.lists.items;
   prices = option_map prices_value l.prices;
   pieces = map piece_value l.pieces.list.items;
   design = None;

@@ -1,5 +1,6 @@
 -- The records that a lottery is written as, and its text.
-use Rattle.std.specs.Prelude.{ℕ, ℤ, ◌+◌, List, [], ◌∷◌, ◌++◌, Option, Some, None, length, map, take, drop, codes, slice_index_or}
+use Rattle.std.specs.Prelude.{◌≡◌, ℕ, ℤ, ◌+◌, List, [], ◌∷◌, ◌++◌, Option, Some, None, IfSome, length, map, take, drop, codes, slice_index_or}
+use Rattle.std.specs.List.{AllZip}
 use Rattle.std.specs.Fmt.{decimal, signed_decimal}
 use Rattle.definitions.specs.Lotteries.{LotteryValue}
 use Rattle.definitions.specs.Sets.{ScaledValue}
@@ -7,6 +8,17 @@ use Rattle.definitions.specs.Texts.{Row}
 use Rattle.definitions.specs.Values.{PieceValue, PricesValue}
 use Rattle.definitions.specs.declared.Give.{Give}
 use Rattle.table_text.specs.Rows.{rows_text}
+
+-- a list for each agent, and a worth for each of its places
+pub record AreListed (agents : ℕ) (lists : List (List ℕ)) (worths : List (List ℤ)) : Type 0 where
+  pub many : length lists ≡ agents
+  pub places : AllZip (λ list worth. length worth ≡ length list) lists worths
+
+-- the shares have a row for each agent and a column for each column, and prices come with lists
+pub record ShapesAgree (agents columns : List (List ℕ)) (shares : ScaledValue) (lists : List (List ℕ)) (prices : Option PricesValue) : Type 0 where
+  pub row_each : shares.agents ≡ length agents
+  pub unit_each : shares.columns ≡ length columns
+  pub listed : IfSome prices (λ y. AreListed (length agents) lists y.worth)
 
 -- for each agent its units of every column, of which there are so many
 abbrev pub share_rows : List (List ℕ) → ℕ → List ℕ → List Row
@@ -35,14 +47,19 @@ abbrev pub priced_rows : List (List ℕ) → List (List ℕ) → List (List ℕ)
 priced_rows agents columns lists None = []
 priced_rows agents columns lists (Some y) = price_rows 1 y.price ++ worth_rows agents columns lists y.worth
 
+-- the version, the denominator, and the names of agents and columns
+unfoldable pub name_rows : ℕ → List (List ℕ) → List (List ℕ) → List Row
+name_rows denominator agents columns =
+    (codes "lottery" ∷ codes "1" ∷ [])
+    ∷ (codes "denominator" ∷ decimal denominator ∷ [])
+    ∷ (codes "agents" ∷ agents)
+    ∷ (codes "objects" ∷ columns) ∷ []
+
 -- the records before the first piece
 unfoldable pub head_rows : List (List ℕ) → List (List ℕ) → ScaledValue → List (List ℕ) → Option PricesValue → List Row
 head_rows agents columns shares lists prices =
-    (codes "lottery" ∷ codes "1" ∷ [])
-    ∷ (codes "denominator" ∷ decimal shares.denominator ∷ [])
-    ∷ (codes "agents" ∷ agents)
-    ∷ (codes "objects" ∷ columns)
-    ∷ (share_rows agents (length columns) shares.units ++ priced_rows agents columns lists prices)
+    name_rows shares.denominator agents columns
+    ++ (share_rows agents (length columns) shares.units ++ priced_rows agents columns lists prices)
 
 abbrev pub piece_row : ℕ → ℕ → Row
 piece_row piece_no weight = codes "piece" ∷ decimal piece_no ∷ decimal weight ∷ []

@@ -1,12 +1,15 @@
 //! What is true of the definitions themselves, whatever the code does.
 
-ghost use Rattle.std.specs.Prelude.{◌≡◌, ◌↔◌, ℕ, List, Some, None, codes, map, drop, flat_map};
+ghost use Rattle.std.specs.Prelude.{◌≡◌, ◌≤◌, ◌↔◌, ℕ, List, Some, None, false, length, codes, map, drop, flat_map};
 ghost use Rattle.definitions.specs.Firsts.{IsFirstFault};
-ghost use Rattle.definitions.specs.Lotteries.{LotteryValue};
-ghost use Rattle.definitions.specs.Texts.{Row, field, number};
+ghost use Rattle.definitions.specs.Lotteries.{LotteryValue, Splits};
+ghost use Rattle.definitions.specs.Sets.{FamilyValue};
+ghost use Rattle.definitions.specs.Values.{SharesValue};
+ghost use Rattle.definitions.specs.Texts.{Row, field, number, null_name, has_name};
 ghost use Rattle.lottery_file.specs.Said.{said_by};
 ghost use Rattle.lottery_file.specs.Checks.{check_record, check_end, fault_of};
-ghost use Rattle.lottery_file.specs.Lotteries.{IsLawfulLottery, lottery_of, TextReadsAs, TextHasFault};
+ghost use Rattle.lottery_file.specs.Lotteries.{AreLawfulNames, IsLawfulLottery, lottery_of, ReadsAs, TextReadsAs, TextHasFault};
+ghost use Rattle.lottery_file.specs.Written.{rows_of, lottery_text, ShapesAgree};
 ghost use Rattle.lottery_file.specs.Records.{records_of, last_of, agents_in, columns_in, pieces_in, lists_in, worths_in};
 ghost use Rattle.lottery_file.specs.declared.faults.LotteryKind.{LotteryKind};
 
@@ -26,6 +29,27 @@ pub fn text_reads_once()
 /// What records without a fault say is a lawful lottery.
 pub fn readings_are_lawful()
     ensures { (rows : List Row) → fault_of rows ≡ None → IsLawfulLottery (lottery_of (said_by rows)) }
+{}
+
+/// The text of a lawful lottery reads as that lottery, as nothing else, and has no fault.
+pub fn written_lottery_reads_back()
+    ensures records { (l : LotteryValue) → IsLawfulLottery l → ReadsAs (rows_of l) l }
+    ensures text { (l : LotteryValue) → IsLawfulLottery l → TextReadsAs (lottery_text l) l }
+    ensures alone { (l m : LotteryValue) → IsLawfulLottery l → TextReadsAs (lottery_text l) m → m ≡ l }
+    ensures faultless { (l : LotteryValue) (n : ℕ) (k : LotteryKind) → IsLawfulLottery l → ¬ (TextHasFault (lottery_text l) n k) }
+{}
+
+/// A lawful lottery can be written, since its shapes agree.
+pub fn lawful_shapes_agree()
+    ensures { (l : LotteryValue) → IsLawfulLottery l → ShapesAgree l.agents l.columns l.shares l.lists l.prices }
+{}
+
+/// A lottery without a design that splits given shares is lawful where their names are: those of 1 to 1,000 agents and of
+/// at most 200 objects, none of them `none`.
+pub fn splits_are_lawful()
+    ensures { (given : SharesValue) (f : FamilyValue) (l : LotteryValue) → Splits given f l → l.design ≡ None
+        → AreLawfulNames given.agents → 1 ≤ length given.agents → length given.agents ≤ 1000
+        → AreLawfulNames given.objects → has_name given.objects null_name ≡ false → length given.objects ≤ 200 → IsLawfulLottery l }
 {}
 
 /// What records say, in the words of the records alone: the denominator and the names are those of the last record

@@ -1,26 +1,39 @@
-//! Lotteries as text: `read_lottery` reads one, with the exact first fault of a text that isn't one.
+//! Lotteries as text: `read_lottery` reads one, with the exact first fault of a text that isn't one, and `write_lottery`
+//! writes one, as do `write_head`, `write_piece` and `write_end` one after the other. What is written of a lawful lottery
+//! reads back as that lottery.
 #![tactic(auto)]
 
 ghost use Rattle.std.specs.Prelude.{IfErr, IfOk};
 ghost use Rattle.lottery_file.specs.Lotteries.{lottery_value, TextReadsAs, RefusedFor, IsLawfulLottery};
 
+mod body;
 mod faults;
 mod fields;
+mod head;
 mod laws;
+mod puts;
 mod reading;
 mod records;
+mod rows;
 mod state;
 #[cfg(test)]
 mod tests;
 mod totals;
 mod words;
+#[cfg(test)]
+mod writer_tests;
+mod writers;
 
 pub use faults::{LotteryFault, LotteryKind, LotteryRefusal};
-pub use laws::{first_fault, readings_are_lawful, text_reads_once, what_records_say};
+pub use laws::{
+    first_fault, lawful_shapes_agree, readings_are_lawful, splits_are_lawful, text_reads_once,
+    what_records_say, written_lottery_reads_back,
+};
 use quota_sets::{Names, Pieces, Prices, Scaled};
 use reading::{finished, read_records};
 use std::alloc::Global;
 use table_text::records;
+pub use writers::{write_end, write_head, write_lottery, write_piece};
 
 /// A lottery as its text says it: the names, the expected assignment in units of a denominator, the lists and prices
 /// where it has a column `none`, and the pieces.

@@ -1,7 +1,8 @@
 use Rattle.std.proofs.Common.{◌≡◌, ◌∙◌, ◌<◌, ◌≤◌, sym, arith, drop, length, get_or, []}
 use Rattle.std.proofs.lemmas.List.{length-drop, take_all, take_more}
 use Rattle.lottery_file.specs.Checks.{check_column_name}
-use Rattle.lottery_file.proofs.FieldFacts.{among-here, among-next, among-all, field-after}
+use Rattle.definitions.proofs.Passed.{among-next, among-all, field-after}
+use Rattle.lottery_file.proofs.FieldFacts.{field-stops}
 use Rattle.lottery_file.proofs.fields.read_columns.Goals as goal
 
 pub returns-in-Err : goal.returns-in-Err
@@ -9,16 +10,16 @@ returns-in-Err c =
     let inv = c.loop-j.invariant in
     let fs = drop 1 c.args.row.now in
     let lt : c.loop-j.j < length fs = omega (arith, length-drop 1 c.args.row.now) in
-    let x : c.field.result.now ≡ get_or fs c.loop-j.j [] = c.field.ensures ∙ field-after c.args.row.now 1 c.loop-j.j in
-    among-here check_column_name fs c.loop-j.j c.in-Err.stop lt inv.0 (rw (x, inv.1) at c.in-Err.ensures)
+    let x : c.field.result.now ≡ get_or fs c.loop-j.j [] = c.field.ensures ∙ field-after c.args.row.now 1 c.loop-j.j [] in
+    field-stops check_column_name fs c.loop-j.j c.in-Err.stop lt inv.0 (rw (x, inv.1) at c.in-Err.ensures)
 
 pub loop-j-preserved : goal.loop-j-preserved
 loop-j-preserved c =
     let inv = c.loop-j.invariant in
     let fs = drop 1 c.args.row.now in
     let lt : c.loop-j.j < length fs = omega (arith, length-drop 1 c.args.row.now) in
-    let x : c.field.result.now ≡ get_or fs c.loop-j.j [] = c.field.ensures ∙ field-after c.args.row.now 1 c.loop-j.j in
-    (among-next check_column_name fs c.loop-j.j lt inv.0 (rw (x, inv.1) at c.in_default.ensures.0), c.in_default.ensures.1 ∙ rw (x, inv.1) (sym (take_more fs c.loop-j.j [] lt)))
+    let x : c.field.result.now ≡ get_or fs c.loop-j.j [] = c.field.ensures ∙ field-after c.args.row.now 1 c.loop-j.j [] in
+    (among-next check_column_name fs c.loop-j.j [] lt inv.0 (rw (x, inv.1) at c.in_default.ensures.0), c.in_default.ensures.1 ∙ rw (x, inv.1) (sym (take_more fs c.loop-j.j [] lt)))
 
 pub returns : goal.returns
 returns c =

@@ -1,6 +1,6 @@
 use Rattle.std.proofs.Common.{◌≡◌, take, drop}
 use Rattle.lottery_file.specs.Checks.{check_column_name}
-use Rattle.lottery_file.proofs.FieldFacts.{IsLawfulTo}
+use Rattle.definitions.proofs.Passed.{IsLawfulTo}
 use Rattle.lottery_file.proofs.fields.read_columns.Given as goal
 
 abbrev pub invariant-loop-j : goal.invariant-loop-j

@@ -4,7 +4,8 @@ use Rattle.std.proofs.lemmas.List.{length-drop, take_all, take_more, append-nil,
 use Rattle.std.proofs.lemmas.List.Sums.{sum_by-append}
 use Rattle.definitions.specs.Texts.{number}
 use Rattle.lottery_file.specs.Checks.{check_entries}
-use Rattle.lottery_file.proofs.FieldFacts.{among-here, among-next, among-all, field-after}
+use Rattle.definitions.proofs.Passed.{among-next, among-all, field-after}
+use Rattle.lottery_file.proofs.FieldFacts.{field-stops}
 use Rattle.lottery_file.proofs.fields.read_entries.Goals as goal
 
 pub loop-j-init : goal.loop-j-init
@@ -16,20 +17,20 @@ returns-in-Err c =
     let inv = c.loop-j.invariant in
     let fs = drop 2 c.args.row.now in
     let lt : c.loop-j.j < length fs = omega (arith, length-drop 2 c.args.row.now) in
-    let x : c.field.result.now ≡ get_or fs c.loop-j.j [] = c.field.ensures ∙ field-after c.args.row.now 2 c.loop-j.j in
+    let x : c.field.result.now ≡ get_or fs c.loop-j.j [] = c.field.ensures ∙ field-after c.args.row.now 2 c.loop-j.j [] in
     let total : sum c.loop-j.units ≡ sum c.args.units.now + sum (map number (take c.loop-j.j fs)) = ap sum inv.1 ∙ sum_by-append (λ (x : ℕ). x) c.args.units.now (map number (take c.loop-j.j fs)) in
-    among-here _ fs c.loop-j.j c.in-Err.stop lt inv.0 (rw (x, total) at c.in-Err.ensures)
+    field-stops _ fs c.loop-j.j c.in-Err.stop lt inv.0 (rw (x, total) at c.in-Err.ensures)
 
 pub loop-j-preserved : goal.loop-j-preserved
 loop-j-preserved c =
     let inv = c.loop-j.invariant in
     let fs = drop 2 c.args.row.now in
     let lt : c.loop-j.j < length fs = omega (arith, length-drop 2 c.args.row.now) in
-    let x : c.field.result.now ≡ get_or fs c.loop-j.j [] = c.field.ensures ∙ field-after c.args.row.now 2 c.loop-j.j in
+    let x : c.field.result.now ≡ get_or fs c.loop-j.j [] = c.field.ensures ∙ field-after c.args.row.now 2 c.loop-j.j [] in
     let total : sum c.loop-j.units ≡ sum c.args.units.now + sum (map number (take c.loop-j.j fs)) = ap sum inv.1 ∙ sum_by-append (λ (x : ℕ). x) c.args.units.now (map number (take c.loop-j.j fs)) in
     let lawful = rw (x, total) at c.in_default.ensures.0 in
     let more = map-append number (take c.loop-j.j fs) (get_or fs c.loop-j.j [] ∷ []) in
-    (among-next _ fs c.loop-j.j lt inv.0 lawful, c.in_default.ensures.1 ∙ rw (x, inv.1, take_more fs c.loop-j.j [] lt, more) (append_assoc c.args.units.now (map number (take c.loop-j.j fs)) _))
+    (among-next _ fs c.loop-j.j [] lt inv.0 lawful, c.in_default.ensures.1 ∙ rw (x, inv.1, take_more fs c.loop-j.j [] lt, more) (append_assoc c.args.units.now (map number (take c.loop-j.j fs)) _))
 
 pub returns : goal.returns
 unfolding check_entries

@@ -2,7 +2,7 @@ use Rattle.std.proofs.Common.{◌≡◌, ◌++◌, ◌+◌, map, take, drop}
 use Rattle.std.specs.Prelude.{sum}
 use Rattle.definitions.specs.Texts.{number}
 use Rattle.lottery_file.specs.Checks.{check_entry}
-use Rattle.lottery_file.proofs.FieldFacts.{IsLawfulTo}
+use Rattle.definitions.proofs.Passed.{IsLawfulTo}
 use Rattle.lottery_file.proofs.fields.read_entries.Given as goal
 
 abbrev pub invariant-loop-j : goal.invariant-loop-j

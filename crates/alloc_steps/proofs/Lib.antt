@@ -1,0 +1,3 @@
+mod Filled
+mod Loop
+pub mod Splitting

@@ -1,0 +1,7 @@
+pub mod Edges
+pub mod Flows
+pub mod Loads
+pub mod Nets
+pub mod Searches
+pub mod Webs
+pub mod Wires

@@ -1,0 +1,222 @@
+ghost use Rattle.std.specs.Prelude.{◌≡◌, ◌+◌, ◌<◌, ◌≤◌, ◌^◌, ◌⊎◌, ◌∷◌, [], All, length, map, IfOk};
+ghost use Rattle.definitions.specs.Sets.{cell_of, row_cells, IsBefore};
+ghost use Rattle.bounded_flow.specs.Edges.{IsSound, rest_of, wire};
+
+use super::*;
+use quota_sets::QuotaSet;
+use std::test::Fail;
+
+fn cell(agent: u32, object: u32) -> Cell
+    ensures { result ≡ cell_of agent object }
+{
+    Cell { agent, object }
+}
+
+// Two cells as a set.
+fn pair(alloc: Global, side: u8, first: Cell, second: Cell) -> Result<QuotaSet, AllocError>
+    requires side { (side ≡ 1) ⊎ (side ≡ 2) }
+    requires order { IsBefore first second }
+    ensures { IfOk result (λ set. set ≡ record { side = side; floor = 1; ceiling = 1; cells = first ∷ second ∷ [] }) }
+{
+    Ok(QuotaSet::new(side, 1, 1, vec![in alloc; first, second]?))
+}
+
+// The rows and columns of two agents and two objects.
+fn two_by_two(alloc: Global) -> Result<Family, Fail>
+    ensures { IfOk result (λ f. (f.agents ≡ 2) × (f.columns ≡ 2) × (length f.sets ≡ 4)) }
+{
+    let mut family = Family::new(alloc, 2, 2);
+    family.insert(pair(alloc, 1, cell(0, 0), cell(0, 1))?)?;
+    family.insert(pair(alloc, 1, cell(1, 0), cell(1, 1))?)?;
+    family.insert(pair(alloc, 2, cell(0, 0), cell(1, 0))?)?;
+    family.insert(pair(alloc, 2, cell(0, 1), cell(1, 1))?)?;
+    Ok(family)
+}
+
+// A net of two agents and two objects with one half in each cell.
+fn halves(alloc: Global) -> Result<Net, Fail>
+    ensures { IfOk result (λ net. (net.agents ≡ 2) × (net.columns ≡ 2) × (length net.sets ≡ 4) × (net.left ≡ 2)) }
+{
+    let family = two_by_two(alloc)?;
+    let trees = Trees::of(alloc, &family)?;
+    let x = Scaled::new(2, 2, 2, vec![in alloc; 1, 1, 1, 1]?);
+    Ok(Net::of(alloc, &trees, &family, &x)?)
+}
+
+// Rounds, and takes the whole matrix off with the greatest weight.
+fn take_one(net: &mut Net) -> u128
+    requires { 1 ≤ net.old.left }
+    ensures left { net.new.left + result ≡ net.old.left }
+    ensures one { 1 ≤ result }
+    ensures same { (net.new.agents ≡ net.old.agents) × (net.new.columns ≡ net.old.columns) × (net.new.sets ≡ net.old.sets) }
+{
+    net.round();
+    let weight = net.greatest_weight();
+    net.take(weight);
+    weight
+}
+
+// The whole units of the four cells, row by row.
+fn wholes(net: &Net) -> [u32; 4]
+    requires agents { net.now.agents ≡ 2 }
+    requires columns { net.now.columns ≡ 2 }
+{
+    let top = [net.whole(cell(0, 0)), net.whole(cell(0, 1))];
+    [top[0], top[1], net.whole(cell(1, 0)), net.whole(cell(1, 1))]
+}
+
+#[test]
+fn floors_bind(rt: HostRuntime) -> Result<(), Fail> {
+    let mut net = halves(rt.alloc())?;
+    assert_eq!(rt; net.rest(cell(1, 1)), 1);
+    assert_eq!(rt; net.set_rest(4), 2);
+    assert_eq!(rt; take_one(&mut net), 1);
+    let first = wholes(&net);
+    assert!(rt; first == [1, 0, 0, 1] || first == [0, 1, 1, 0]);
+    assert_eq!(rt; net.set_whole(1), 1);
+    assert_eq!(rt; net.set_whole(4), 1);
+
+    assert_eq!(rt; take_one(&mut net), 1);
+    let second = if first[0] == 1 {
+        [0, 1, 1, 0]
+    } else {
+        [1, 0, 0, 1]
+    };
+    assert_eq!(rt; wholes(&net), second);
+    assert_eq!(rt; net.rest(cell(1, 1)), 0);
+    assert_eq!(rt; net.left(), 0);
+    Ok(())
+}
+
+#[test]
+fn round_twice_is_round_once(rt: HostRuntime) -> Result<(), Fail> {
+    let mut net = halves(rt.alloc())?;
+    net.round();
+    let once = wholes(&net);
+    net.round();
+    assert_eq!(rt; wholes(&net), once);
+    Ok(())
+}
+
+// An edge with no whole units, as a net begins with.
+fn empty(edge: &mut Edge, left: u128)
+    requires sound { IsSound left edge.old }
+    requires limit { left ≤ 2 ^ 116 }
+    ensures sound { IsSound left edge.new }
+    ensures rest { rest_of left edge.new ≡ rest_of left edge.old }
+    ensures wire { wire edge.new ≡ wire edge.old }
+    ensures whole { edge.new.whole ≡ 0 }
+{
+    edge.under = edge.rest(left);
+    edge.over = 0;
+    edge.whole = 0;
+}
+
+// Takes all whole units off the edges.
+fn reset(edges: &mut [Edge], left: u128)
+    requires sound { All (IsSound left) edges.old }
+    requires limit { left ≤ 2 ^ 116 }
+    ensures sound { All (IsSound left) edges.new }
+    ensures rests { map (rest_of left) edges.new ≡ map (rest_of left) edges.old }
+    ensures wires { map wire edges.new ≡ map wire edges.old }
+    ensures whole { All (λ e. e.whole ≡ 0) edges.new }
+{
+    for index in 0..edges.len() {
+        empty(&mut edges[index], left);
+    }
+}
+
+// Rounds from no whole units on.
+fn round_cold(net: &mut Net)
+    requires { 1 ≤ net.old.left }
+    ensures { (net.new.agents ≡ net.old.agents) × (net.new.columns ≡ net.old.columns) }
+{
+    reset(&mut net.edges, net.left);
+    net.round();
+}
+
+#[test]
+fn cold_as_warm(rt: HostRuntime) -> Result<(), Fail> {
+    let mut warm = halves(rt.alloc())?;
+    let mut cold = halves(rt.alloc())?;
+    assert_eq!(rt; take_one(&mut warm), 1);
+    assert_eq!(rt; take_one(&mut cold), 1);
+    assert_eq!(rt; wholes(&cold), wholes(&warm));
+
+    warm.round();
+    round_cold(&mut cold);
+    assert_eq!(rt; wholes(&cold), wholes(&warm));
+    Ok(())
+}
+
+// The cells of one agent and so many objects.
+fn cells_of_row(alloc: Global, objects: u32) -> Result<Vec<Cell>, AllocError>
+    ensures { IfOk result (λ cells. cells.items ≡ row_cells objects 0) }
+{
+    let mut cells = Vec::new(alloc);
+    for object in 0..objects {
+        cells.push(cell(0, object))?;
+    }
+    Ok(cells)
+}
+
+// They as a set.
+fn row(alloc: Global, objects: u32) -> Result<QuotaSet, AllocError>
+    ensures { IfOk result (λ set. set ≡ record { side = 1; floor = 1; ceiling = 1; cells = row_cells objects 0 }) }
+{
+    let cells = cells_of_row(alloc, objects)?;
+    Ok(QuotaSet::new(1, 1, 1, cells))
+}
+
+// Takes pieces off until nothing is left, and answers how many; None where one has another weight than 1.
+fn pieces_of_one(net: &mut Net) -> Option<u32>
+    requires { net.old.left < 2 ^ 32 }
+{
+    let mut count = 0;
+    while net.left() > 0 {
+        if take_one(net) != 1 {
+            return None;
+        }
+        count += 1;
+    }
+    Some(count)
+}
+
+#[test]
+fn thirty_equal_shares(rt: HostRuntime) -> Result<(), Fail> {
+    let alloc = rt.alloc();
+    let mut family = Family::new(alloc, 1, 30);
+    family.insert(row(alloc, 30)?)?;
+    let trees = Trees::of(alloc, &family)?;
+    let x = Scaled::new(30, 1, 30, vec![in alloc; 1; 30]?);
+    let mut net = Net::of(alloc, &trees, &family, &x)?;
+    assert_eq!(rt; pieces_of_one(&mut net), Some(30));
+    Ok(())
+}
+
+#[test]
+fn cell_in_no_set(rt: HostRuntime) -> Result<(), Fail> {
+    let alloc = rt.alloc();
+    let family = Family::new(alloc, 1, 1);
+    let trees = Trees::of(alloc, &family)?;
+    let x = Scaled::new(2, 1, 1, vec![in alloc; 1]?);
+    let mut net = Net::of(alloc, &trees, &family, &x)?;
+    assert_eq!(rt; take_one(&mut net), 1);
+    let first = net.whole(cell(0, 0));
+    assert!(rt; first <= 1);
+    assert_eq!(rt; take_one(&mut net), 1);
+    assert_eq!(rt; net.whole(cell(0, 0)), 1 - first);
+    Ok(())
+}
+
+#[test]
+fn no_cell_at_all(rt: HostRuntime) -> Result<(), Fail> {
+    let alloc = rt.alloc();
+    let family = Family::new(alloc, 1, 0);
+    let trees = Trees::of(alloc, &family)?;
+    let x = Scaled::new(3, 1, 0, Vec::new(alloc));
+    let mut net = Net::of(alloc, &trees, &family, &x)?;
+    assert_eq!(rt; take_one(&mut net), 3);
+    assert_eq!(rt; net.left(), 0);
+    Ok(())
+}

@@ -1,0 +1,105 @@
+-- What the eater hands out.
+use Rattle.std.proofs.Common.{◌≡◌, ℕ, ◌+◌, ◌*◌, ◌<◌, ◌≤◌, ◌++◌, List, length, take, drop, ap, sym, ◌∙◌, subst, arith}
+use Rattle.std.specs.Prelude.{slice_index, ◌^◌, All}
+use Rattle.definitions.specs.Sets.{ScaledValue, IsScaledMatrix}
+use Rattle.definitions.specs.Values.{Market, ProblemValue, IsProblem, column_count, market_of, limits_of}
+use Rattle.definitions.specs.Eating.{full_at, share, IsEatingTable, IsLowestTerms}
+use Rattle.eating_laws.proofs.Full.{full_le}
+use Rattle.eating_laws.proofs.Limits.{agent_count}
+use Rattle.eating.specs.declared.eater.Eater.{Eater}
+use Rattle.eating.specs.Answers.{IsEatenBy, IsTooFineAt}
+use Rattle.eating.specs.Eaten.{EatenValue, IsEatenValue}
+use Rattle.eating.specs.Plan.{LineValue, AreLines, AreLinesOf}
+use Rattle.eating.specs.Runs.{IsRunOf, IsTooFineIn}
+use Rattle.eating.specs.Serving.{IsEaterOf, AreListsWithin, IsServed, IsUncappedOffLists}
+use Rattle.eating.proofs.Starting.{each_cell}
+use Rattle.eating.proofs.Finishing.{problem_small, problem_served, lists_within, off_lists, matrix_lawful, value_eaten, value_lawful}
+
+-- the denominator of the first table that is too fine, in a problem as in its market
+pub too_fine_at : (p : ProblemValue) (D : ℕ) → IsTooFineIn (market_of p) D → IsTooFineAt p D
+too_fine_at p D h = record { moment = h.moment; table = h.table; first = h.first; below = h.below }
+
+-- what was written with other names of the lines and the moments
+pub served_read : (columns U : ℕ) (lines lines' : List LineValue) (e e' xs : List ℕ) → lines' ≡ lines → e' ≡ e
+    → ((market : Market) → IsServed market lines' e' → (i a : ℕ) → i < length lines' → a < columns → slice_index xs (i * columns + a) ≡ share market U e' i a)
+    → (market : Market) → IsServed market lines e → (i a : ℕ) → i < length lines → a < columns → slice_index xs (i * columns + a) ≡ share market U e i a
+served_read columns U lines lines' e e' xs p q h =
+    subst (λ l. (market : Market) → IsServed market l e → (i a : ℕ) → i < length l → a < columns → slice_index xs (i * columns + a) ≡ share market U e i a) p
+    (subst (λ m. (market : Market) → IsServed market lines' m → (i a : ℕ) → i < length lines' → a < columns → slice_index xs (i * columns + a) ≡ share market U m i a) q h)
+
+pub capped_read : (columns U first : ℕ) (lines lines' : List LineValue) (e e' xs : List ℕ) → lines' ≡ lines → e' ≡ e
+    → ((market : Market) → IsServed market lines' e' → IsUncappedOffLists market first → (i a : ℕ) → i < length lines' → a < columns → slice_index xs (i * columns + a) ≡ full_at U (drop first market.limits) (drop first e') i a)
+    → (market : Market) → IsServed market lines e → IsUncappedOffLists market first → (i a : ℕ) → i < length lines → a < columns → slice_index xs (i * columns + a) ≡ full_at U (drop first market.limits) (drop first e) i a
+capped_read columns U first lines lines' e e' xs p q h =
+    subst (λ l. (market : Market) → IsServed market l e → IsUncappedOffLists market first → (i a : ℕ) → i < length l → a < columns → slice_index xs (i * columns + a) ≡ full_at U (drop first market.limits) (drop first e) i a) p
+    (subst (λ m. (market : Market) → IsServed market lines' m → IsUncappedOffLists market first → (i a : ℕ) → i < length lines' → a < columns → slice_index xs (i * columns + a) ≡ full_at U (drop first market.limits) (drop first m) i a) q h)
+
+module _ (p : ProblemValue) (h : IsProblem p) (s : Eater) (eater : IsEaterOf p s) where
+  pub eater_run : IsRunOf (market_of p) s.lines.items s.progress
+  eater_run = record { lines_of = eater.lines; small = problem_small p h; start = eater.start }
+
+  pub eater_lists : AreListsWithin s.columns s.lines.items
+  eater_lists = subst (λ n. AreListsWithin n s.lines.items) (sym eater.columns) (lists_within p h s.lines.items eater.lines)
+
+  pub eater_many : length s.lines.items ≡ length p.agents
+  eater_many = eater.lines.many ∙ agent_count p h
+
+  pub eater_cells : length p.agents * column_count p ≡ length s.lines.items * s.columns
+  eater_cells = ap (λ n. n * column_count p) (sym eater_many) ∙ ap (λ n. length s.lines.items * n) (sym eater.columns)
+
+  module _ (U : ℕ) (e : List ℕ) (table : IsEatingTable (market_of p) U e) (lowest : IsLowestTerms U e) (fine : U ≤ 2 ^ 116) (units caps : List ℕ)
+      (many : length units ≡ length s.units.items) (many_caps : length caps ≡ length s.caps.items)
+      (served : (market : Market) → IsServed market s.lines.items e → (i a : ℕ) → i < length s.lines.items → a < s.columns → slice_index units (i * s.columns + a) ≡ share market U e i a)
+      (capped : (market : Market) → IsServed market s.lines.items e → IsUncappedOffLists market s.stated → (i a : ℕ) → i < length s.lines.items → a < s.columns
+          → slice_index caps (i * s.columns + a) ≡ full_at U (drop s.stated market.limits) (drop s.stated e) i a) where
+    all_served : IsServed (market_of p) s.lines.items e
+    all_served = problem_served p h s.lines.items e eater.lines table.size
+
+    shares : (i a : ℕ) → i < length p.agents → a < column_count p → slice_index units (i * column_count p + a) ≡ share (market_of p) U e i a
+    shares i a l m =
+        subst (λ n. a < n → slice_index units (i * n + a) ≡ share (market_of p) U e i a) eater.columns
+        (served (market_of p) all_served i a (omega (arith, l, eater_many))) m
+
+    own : (i a : ℕ) → i < length p.agents → a < column_count p → slice_index caps (i * column_count p + a) ≡ full_at U (drop p.stated (limits_of p)) (drop p.stated e) i a
+    own i a l m =
+        subst (λ t. slice_index caps (i * column_count p + a) ≡ full_at U (drop t (limits_of p)) (drop t e) i a) eater.stated
+        (subst (λ n. a < n → slice_index caps (i * n + a) ≡ full_at U (drop s.stated (limits_of p)) (drop s.stated e) i a) eater.columns
+        (capped (market_of p) all_served (subst (IsUncappedOffLists (market_of p)) (sym eater.stated) (off_lists p h)) i a (omega (arith, l, eater_many))) m)
+
+    all_units : length units ≡ length p.agents * column_count p
+    all_units = many ∙ eater.units
+
+    all_caps : length caps ≡ length p.agents * column_count p
+    all_caps = many_caps ∙ eater.caps
+
+    within : (n : ℕ) → n < length caps → slice_index caps n ≤ U
+    within = each_cell (length p.agents) (column_count p) U caps all_caps
+        (λ i a l m. (let is = own i a l m in omega (arith, is, full_le U (drop p.stated (limits_of p)) (drop p.stated e) i a)))
+
+    abbrev pub handed : EatenValue
+    handed = record {
+      moments = take s.stated e;
+      shares = record { denominator = U; agents = length s.lines.items; columns = s.columns; units = units };
+      caps = caps;
+    }
+
+    -- it is lawful, and what is eaten
+    pub handed_matrix : IsScaledMatrix handed.shares
+    handed_matrix =
+        subst (λ g. IsScaledMatrix (record { denominator = U; agents = g; columns = s.columns; units = units })) (sym eater_many)
+        (subst (λ n. IsScaledMatrix (record { denominator = U; agents = length p.agents; columns = n; units = units })) (sym eater.columns)
+        (matrix_lawful p h U e units caps table lowest fine all_units all_caps shares own))
+
+    pub handed_value : IsEatenValue handed
+    handed_value =
+        subst (λ t. IsEatenValue (record { moments = take t e; shares = record { denominator = U; agents = length s.lines.items; columns = s.columns; units = units }; caps = caps })) (sym eater.stated)
+        (subst (λ g. IsEatenValue (record { moments = take p.stated e; shares = record { denominator = U; agents = g; columns = s.columns; units = units }; caps = caps })) (sym eater_many)
+        (subst (λ n. IsEatenValue (record { moments = take p.stated e; shares = record { denominator = U; agents = length p.agents; columns = n; units = units }; caps = caps })) (sym eater.columns)
+        (value_lawful p h U e units caps table lowest fine all_units all_caps shares own within)))
+
+    pub handed_eaten : IsEatenBy p e handed
+    handed_eaten =
+        subst (λ t. IsEatenBy p e (record { moments = take t e; shares = record { denominator = U; agents = length s.lines.items; columns = s.columns; units = units }; caps = caps })) (sym eater.stated)
+        (subst (λ g. IsEatenBy p e (record { moments = take p.stated e; shares = record { denominator = U; agents = g; columns = s.columns; units = units }; caps = caps })) (sym eater_many)
+        (subst (λ n. IsEatenBy p e (record { moments = take p.stated e; shares = record { denominator = U; agents = length p.agents; columns = n; units = units }; caps = caps })) (sym eater.columns)
+        (value_eaten p h U e units caps table lowest fine all_units all_caps shares own)))

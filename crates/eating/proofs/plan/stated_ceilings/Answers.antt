@@ -1,0 +1,21 @@
+use Rattle.std.proofs.Common.{arith, rules, ◌≡◌, ◌<◌, ◌≤◌, ◌-◌, ◌+◌, ◌∙◌, ◌∷◌, ◌++◌, [], ap, sym, map, take, length, get_or, Some, subst}
+use Rattle.std.specs.Prelude.{slice_get}
+use Rattle.std.proofs.lemmas.List.{take_more, map-append}
+use Rattle.std.proofs.lemmas.Option.{get_or_from_slice_get, slice_get_within}
+use Rattle.definitions.specs.Sets.{SetValue, FamilyValue}
+use Rattle.definitions.proofs.Families.{sets_of_problem}
+use Rattle.eating.proofs.Counts.{ceiling_more}
+use Rattle.eating.proofs.plan.stated_ceilings.Goals as goal
+
+pub unwrap-requires : goal.unwrap-requires
+unwrap-requires c =
+    let problem = c.args.problem.now in
+    let many = sets_of_problem problem c.family.ensures.lawful in
+    let same = ap (λ (f : FamilyValue). length f.sets) c.family.ensures.value in
+    c.get.ensures.found.1 (omega arith, omega (arith, many, same, c.loop-set-test.true, c.stated-set-end.ensures.value))
+
+pub loop-set-preserved : goal.loop-set-preserved
+loop-set-preserved c =
+    let here : slice_get c.args.problem.now.family.sets (c.loop-set.set - 1) ≡ Some c.unwrap.result.now = search (rules, c.get.ensures.value, c.unwrap.ensures, c.family.ensures.value) in
+    c.in_ok-push.ensures.items ∙ ap (λ x. c.loop-set.ceilings.items ++ x ∷ []) c.ceiling.ensures.value
+    ∙ ceiling_more c.args.problem.now.family.sets c.loop-set.set c.unwrap.result.now (omega arith) here c.loop-set.ceilings.items c.loop-set.invariant

@@ -1,0 +1,44 @@
+-- What eating answers: the eating table in lowest terms, or the first table that is too fine.
+use Rattle.std.specs.Prelude.{◌≡◌, ℕ, ◌*◌, ◌<◌, ◌≤◌, ◌^◌, List, length, take, drop}
+use Rattle.definitions.specs.Sets.{cell_of, unit_at}
+use Rattle.definitions.specs.Values.{ProblemValue, column_count, market_of, capped_limits}
+use Rattle.definitions.specs.Eating.{full_at, IsAssignmentOf, IsEatingTable, IsLowestTerms, IsFirstTooFine}
+use Rattle.eating_laws.specs.Shares.{IsMatrixFor}
+use Rattle.eating.specs.Eaten.{EatenValue}
+use Rattle.eating.specs.declared.answer.EatFault.{EatFault}
+use Rattle.eating.specs.declared.answer.EatFault.TheVariants.{TooFine, NoMemory}
+
+-- the moment at which the limit of a capped cell is full in table e over D, and D at every other cell
+abbrev pub cap_at : ProblemValue → ℕ → List ℕ → ℕ → ℕ → ℕ
+cap_at p D e i a = full_at D (capped_limits 0 (market_of p).agents) (drop p.stated e) i a
+
+-- one number for each cell of the problem, row by row: that of the cell's own limit
+pub record AreCaps (p : ProblemValue) (D : ℕ) (e caps : List ℕ) : Type 0 where
+  pub many : length caps ≡ length p.agents * column_count p
+  pub each : (i a : ℕ) → i < length p.agents → a < column_count p → unit_at (column_count p) caps (cell_of i a) ≡ cap_at p D e i a
+
+-- e is the eating table of the problem in lowest terms, and v has its moments, assignment and caps
+pub record IsEatenBy (p : ProblemValue) (e : List ℕ) (v : EatenValue) : Type 0 where
+  pub table : IsEatingTable (market_of p) v.shares.denominator e
+  pub lowest : IsLowestTerms v.shares.denominator e
+  pub within : v.shares.denominator ≤ 2 ^ 116
+  pub moments : v.moments ≡ take p.stated e
+  pub matrix : IsMatrixFor p v.shares
+  pub shares : IsAssignmentOf (market_of p) v.shares.denominator e v.shares
+  pub caps : AreCaps p v.shares.denominator e v.caps
+
+-- v is what is eaten in the problem
+abbrev pub IsEaten : ProblemValue → EatenValue → Type 0
+IsEaten p v = (e : List ℕ) × IsEatenBy p e v
+
+-- D is the denominator of the problem's first table that is too fine
+pub record IsTooFineAt (p : ProblemValue) (D : ℕ) : Type 0 where
+  pub moment : ℕ
+  pub table : List ℕ
+  pub first : IsFirstTooFine (market_of p) D moment table
+  pub below : D < 2 ^ 126
+
+-- the fault carries the denominator of the first table that is too fine, or it is want of memory
+abbrev pub IsEatFault : ProblemValue → EatFault → Type 0
+IsEatFault p (TooFine D) = IsTooFineAt p D
+IsEatFault p NoMemory = Unit {0}

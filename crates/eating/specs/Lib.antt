@@ -1,0 +1,9 @@
+pub mod Answers
+pub mod Caps
+pub mod Eaten
+pub mod Holders
+pub mod Plan
+pub mod Runs
+pub mod Seats
+pub mod Serving
+pub mod Steps

@@ -1,0 +1,72 @@
+-- The state of eating at its start and from moment to moment.
+use Rattle.std.specs.Prelude.{◌≡◌, ℕ, ◌+◌, ◌*◌, ◌<◌, ◌≤◌, ◌^◌, List, length, slice_index, replicate}
+use Rattle.definitions.specs.Values.{Market}
+use Rattle.definitions.specs.Eating.{slot_ceiling, IsFirstTooFine, IsLowestTerms}
+use Rattle.frac128.specs.Fraction.{numerator, denominator}
+use Rattle.frac128.specs.declared.fractions.Fraction.{Fraction}
+use Rattle.frac128.specs.Lcm.{IsLcm}
+use Rattle.eating.specs.declared.progress.Progress.{Progress}
+use Rattle.eating.specs.Plan.{LineValue, AreLinesOf, IsSmall}
+use Rattle.eating.specs.Seats.{AreSeats, seat_speed}
+use Rattle.eating.specs.Steps.{AreAdvanced, IsReady}
+
+-- nothing is eaten: all limits are open, with their ceilings left, and each agent is at its first place
+pub record IsStart (market : Market) (agents : ℕ) (s : Progress) : Type 0 where
+  pub unit : s.unit ≡ 1
+  pub at : s.at ≡ 0
+  pub moments : s.moments.items ≡ replicate (length market.limits) 1
+  pub many_rests : length s.rests.items ≡ length market.limits
+  pub rests : (j : ℕ) → j < length market.limits → slice_index s.rests.items j ≡ slot_ceiling market j
+  pub speeds : s.speeds.items ≡ replicate (length market.limits) 0
+  pub places : s.places.items ≡ replicate agents 0
+
+-- eating in a market, along the lines of its agents
+pub record IsRunOf (market : Market) (lines : List LineValue) (s : Progress) : Type 0 where
+  pub lines_of : AreLinesOf market lines
+  pub small : IsSmall market
+  pub start : IsStart market (length lines) s
+
+-- eating in some market
+abbrev pub IsRun : List LineValue → Progress → Type 0
+IsRun lines s = (market : Market) × IsRunOf market lines s
+
+-- a step to the moment m, over the least unit that it fits
+pub record IsStepTo (old new : Progress) (m : Fraction) : Type 0 where
+  pub factor : ℕ
+  pub step : ℕ
+  pub positive : 1 ≤ factor
+  pub unit : new.unit ≡ factor * old.unit
+  pub fine : new.unit ≤ 2 ^ 116
+  pub at : new.at ≡ factor * old.at + step
+  pub least : IsLcm old.unit (denominator m) new.unit
+  pub value : new.at * denominator m ≡ numerator m * new.unit
+  pub slots : AreAdvanced old.unit factor step (factor * old.at + step) old.moments.items old.rests.items old.speeds.items new.moments.items new.rests.items
+  pub speeds : new.speeds.items ≡ old.speeds.items
+  pub places : new.places.items ≡ old.places.items
+
+-- the agents are seated, with the speeds that they make, and nothing else changes
+pub record IsSeated (lines : List LineValue) (old new : Progress) : Type 0 where
+  pub seats : AreSeats old.unit old.moments.items lines new.places.items
+  pub many : length new.speeds.items ≡ length old.moments.items
+  pub speeds : (j : ℕ) → slice_index new.speeds.items j ≡ seat_speed lines new.places.items j
+  pub unit : new.unit ≡ old.unit
+  pub at : new.at ≡ old.at
+  pub moments : new.moments.items ≡ old.moments.items
+  pub rests : new.rests.items ≡ old.rests.items
+
+-- the state at a moment: ready to go on, in lowest terms, and each agent in its seat
+pub record IsAt (market : Market) (lines : List LineValue) (s : Progress) : Type 0 where
+  pub ready : IsReady market s.unit s.at s.moments.items (λ j. slice_index s.rests.items j) (λ j. slice_index s.speeds.items j)
+  pub lowest : IsLowestTerms s.unit s.moments.items
+  pub fine : s.unit ≤ 2 ^ 116
+  pub many_rests : length s.rests.items ≡ length s.moments.items
+  pub many_speeds : length s.speeds.items ≡ length s.moments.items
+  pub seats : AreSeats s.unit s.moments.items lines s.places.items
+  pub speeds : (j : ℕ) → slice_index s.speeds.items j ≡ seat_speed lines s.places.items j
+
+-- D is the denominator of the market's first table that is too fine
+pub record IsTooFineIn (market : Market) (D : ℕ) : Type 0 where
+  pub moment : ℕ
+  pub table : List ℕ
+  pub first : IsFirstTooFine market D moment table
+  pub below : D < 2 ^ 126

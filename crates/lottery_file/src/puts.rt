@@ -1,0 +1,61 @@
+// Records that are put into a buffer, which is written whenever it is long enough.
+ghost use Rattle.std.specs.Prelude.{◌<◌, ◌≡◌, ◌∷◌, [], ℕ, List, length, IfOk};
+ghost use Rattle.std.specs.Result.{ForOk};
+ghost use Rattle.table_text.specs.Rows.{rows_text};
+ghost use Rattle.lottery_file.specs.Buffers.{Puts};
+
+use device_core::{Sink, SinkFault};
+use std::alloc::Global;
+use table_text::{NoMemory, Row, row_bytes};
+
+// How many bytes may wait.
+const BLOCK: usize = 65_536;
+
+// Writes what waits.
+fn write_block<K: Sink>(buffer: &mut Vec<u8>, out: &mut K) -> Result<(), SinkFault>
+    ensures { Puts K.written K.flushed K.faults K.short out.old out.new buffer.old.items buffer.new.items [] result }
+{
+    match out.write(buffer) {
+        Ok(()) => {
+            buffer.clear();
+            Ok(())
+        }
+        Err(fault) => Err(fault),
+    }
+}
+
+// Puts a record.
+fn put_row<K: Sink>(
+    alloc: Global,
+    row: &Row,
+    buffer: &mut Vec<u8>,
+    out: &mut K,
+) -> Result<(), SinkFault>
+    requires { 0 < length row.now }
+    ensures { Puts K.written K.flushed K.faults K.short out.old out.new buffer.old.items buffer.new.items (rows_text (row.now ∷ [])) result }
+{
+    if row_bytes(alloc, row, buffer).is_err() {
+        return Err(SinkFault::NoMemory);
+    }
+    if buffer.len() <= BLOCK {
+        return Ok(());
+    }
+    write_block(buffer, out)
+}
+
+// Puts a record, where there was memory to make it.
+pub(crate) fn put_made<K: Sink>(
+    alloc: Global,
+    made: Result<Row, NoMemory>,
+    buffer: &mut Vec<u8>,
+    out: &mut K,
+) -> Result<(), SinkFault>
+    requires { ForOk made (λ row. 0 < length row) }
+    ensures { (row : List (List ℕ)) → IfOk made (λ r. r ≡ row) →
+        Puts K.written K.flushed K.faults K.short out.old out.new buffer.old.items buffer.new.items (rows_text (row ∷ [])) result }
+{
+    match made {
+        Ok(row) => put_row(alloc, &row, buffer, out),
+        Err(NoMemory) => Err(SinkFault::NoMemory),
+    }
+}

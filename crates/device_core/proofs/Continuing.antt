@@ -14,7 +14,7 @@ appended_continued a b t w v u (Err e) (Ok _) first second whole = absurd second
 appended_continued a b t w v u (Err e) (Err f) first second whole = front-before a b t w u (rw second.1 first) whole
 
 -- counts that had not moved before
-moved : {U : Type 0} (f0 f1 f2 s0 s1 s2 : ℕ) (r : Result U SinkFault) → f1 ≡ f0 → s1 ≡ s0 → WriterCounts f1 f2 s1 s2 r → WriterCounts f0 f2 s0 s2 r
+pub moved : {U : Type 0} (f0 f1 f2 s0 s1 s2 : ℕ) (r : Result U SinkFault) → f1 ≡ f0 → s1 ≡ s0 → WriterCounts f1 f2 s1 s2 r → WriterCounts f0 f2 s0 s2 r
 moved f0 f1 f2 s0 s1 s2 (Ok _) e d h = (h.0 ∙ e, h.1 ∙ d)
 moved f0 f1 f2 s0 s1 s2 (Err sink.Failed) e d h = (record { later = omega (arith, e, h.0.later); rose = let P : ℕ → Type 0 = λ n. Rose n f2 in subst P e h.0.rose }, h.1 ∙ d)
 moved f0 f1 f2 s0 s1 s2 (Err sink.NoMemory) e d h = (h.0 ∙ e, omega (arith, d, h.1))

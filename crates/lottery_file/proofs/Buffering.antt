@@ -1,9 +1,9 @@
 -- Records that are put into a buffer, one after the other.
 use Rattle.std.proofs.Common.{◌≡◌, ◌++◌, [], ◌∙◌, ℕ, List, Option, Result, Ok, Err, refl, sym, ap, subst, append_assoc, append-nil, arith}
 use Rattle.std.specs.Io.KnownBytes.{append_known}
+use Rattle.device_core.proofs.Continuing.{moved}
 use Rattle.device_core.specs.declared.faults.SinkFault.{SinkFault}
 use Rattle.device_core.specs.declared.faults.SinkFault.TheVariants as sink
-use Rattle.device_core.specs.Counts.{Rose, WriterCounts}
 use Rattle.device_core.specs.Told.{Appended}
 use Rattle.device_core.proofs.Fronts.{append_known-nil, append_known-twice, appended-after, front-after, front-before, nothing_written}
 use Rattle.lottery_file.specs.Buffers.{Added, Puts}
@@ -14,12 +14,6 @@ added_next a b c x y z t u (Ok v) front first e h =
     (front ++ h.0, h.1 ∙ ap (λ (o : Option (List ℕ)). append_known o h.0) first ∙ append_known-twice a front h.0, append_assoc front h.0 z ∙ ap (λ (s : List ℕ). front ++ s) h.2 ∙ sym (append_assoc front y u) ∙ ap (λ (s : List ℕ). s ++ u) e ∙ append_assoc x t u)
 added_next a b c x y z t u (Err f) front first e h =
     front-after front (y ++ u) (x ++ (t ++ u)) a b c first h (sym (append_assoc front y u) ∙ ap (λ (s : List ℕ). s ++ u) e ∙ append_assoc x t u)
-
--- counts that had not moved before
-moved : {U : Type 0} (f0 f1 f2 s0 s1 s2 : ℕ) (r : Result U SinkFault) → f1 ≡ f0 → s1 ≡ s0 → WriterCounts f1 f2 s1 s2 r → WriterCounts f0 f2 s0 s2 r
-moved f0 f1 f2 s0 s1 s2 (Ok _) e d h = (h.0 ∙ e, h.1 ∙ d)
-moved f0 f1 f2 s0 s1 s2 (Err sink.Failed) e d h = (record { later = omega (arith, e, h.0.later); rose = let P : ℕ → Type 0 = λ n. Rose n f2 in subst P e h.0.rose }, h.1 ∙ d)
-moved f0 f1 f2 s0 s1 s2 (Err sink.NoMemory) e d h = (h.0 ∙ e, omega (arith, d, h.1))
 
 module _ {S : Type 0} {written : S → Option (List ℕ)} {flushed faults short : S → ℕ} where
   -- one text, and then another

@@ -3,7 +3,8 @@ use quota_sets::{Cell, Give};
 use std::test::Fail;
 
 // Two agents who share two objects, without prices.
-const PLAIN: &str = "lottery,1\ndenominator,2\nagents,x,y\nobjects,a,b\nrow,x,1,1\nrow,y,1,1\n\
+pub(crate) const PLAIN: &str =
+    "lottery,1\ndenominator,2\nagents,x,y\nobjects,a,b\nrow,x,1,1\nrow,y,1,1\n\
     piece,1,1\ngive,x,a,1\ngive,y,b,1\npiece,2,1\ngive,x,b,1\ngive,y,a,1\nend,2\n";
 
 // Three agents with their lists, and two priced sets.

@@ -1,14 +1,11 @@
 // What is written of a lottery reads back, and what a refused write leaves.
 use super::*;
+use crate::tests::PLAIN;
 use device_core::{MemorySink, SinkFault, SureSink};
 use std::process::Abort;
 use std::test::Fail;
 
-// Two agents who share two objects, without prices.
-const PLAIN: &str = "lottery,1\ndenominator,2\nagents,x,y\nobjects,a,b\nrow,x,1,1\nrow,y,1,1\n\
-    piece,1,1\ngive,x,a,1\ngive,y,b,1\npiece,2,1\ngive,x,b,1\ngive,y,a,1\nend,2\n";
-
-// The same two with their lists and a price, and names that have to be quoted.
+// Two agents with their lists and a price, and names that have to be quoted.
 const PRICED: &str =
     "lottery,1\ndenominator,2\nagents,\"Lee, Ada\",\"O\"\"Dea, Jo\"\nobjects,North,South,none\n\
     row,\"Lee, Ada\",1,1,0\nrow,\"O\"\"Dea, Jo\",1,1,0\nprice,1,4\nprice,2,0\n\

@@ -1,5 +1,5 @@
 -- One more record of preferences, and their end.
-use Rattle.std.proofs.Common.{◌≡◌, ◌≢◌, ◌==◌, ◌∙◌, ◌++◌, ◌∷◌, [], ℕ, suc, List, Option, Some, None, Bool, true, false, Result, Ok, Err, refl, sym, ap, subst, length, drop, map, filter}
+use Rattle.std.proofs.Common.{◌≡◌, ◌==◌, ◌∙◌, ◌++◌, ◌∷◌, [], ℕ, suc, List, None, true, false, refl, sym, length, drop}
 use Rattle.std.specs.Prelude.{not, codes}
 use Rattle.std.specs.List.{list_all}
 use Rattle.std.specs.Str.{bytes_eq, is_utf8}
@@ -7,12 +7,8 @@ use Rattle.std.proofs.lemmas.Bool.{ne_eqb}
 use Rattle.std.proofs.lemmas.List.{append-nil, map-append}
 use Rattle.std.proofs.lemmas.List.Elements.{filter-append}
 use Rattle.definitions.specs.Texts.{Row, first_field}
-use Rattle.alloc_input.specs.Checks.{Checks, StopsAt}
-use Rattle.alloc_input.specs.Prefs.{is_blank, filled_rows, has_header, agent_rows, agents_of, lists_of, list_of, check_record, check_agent, check_end}
+use Rattle.alloc_input.specs.Prefs.{is_blank, filled_rows, agent_rows, list_of, check_record, check_agent}
 use Rattle.alloc_input.specs.PrefsReading.{IsAfter, column_lists}
-use Rattle.alloc_input.specs.declared.faults.InputKind.{InputKind}
-use Rattle.alloc_input.specs.declared.faults.InputKind.TheVariants as kind
-use Rattle.alloc_input.specs.declared.faults.Stop.{Stop}
 use Rattle.alloc_input.specs.declared.prefs.State.{State}
 
 pub filled_rows-blank : (e : List Row) (row : Row) → true ≡ (length row == 0) → filled_rows (e ++ row ∷ []) ≡ filled_rows e

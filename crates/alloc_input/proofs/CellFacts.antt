@@ -1,23 +1,22 @@
 -- The cells of a matrix that a test picks, and those of a rectangle besides.
-use Rattle.std.proofs.Common.{◌≡◌, ◌∙◌, ◌+◌, ◌<◌, ◌≤◌, ◌*◌, ◌++◌, ◌∷◌, ◌||◌, ◌&&◌, [], ℕ, suc, zero, List, Bool, true, false, length, refl, sym, ap, map, filter, get_or, set, take, inl, inr, arith, length-append, append_assoc}
+use Rattle.std.proofs.Common.{◌≡◌, ◌∙◌, ◌+◌, ◌<◌, ◌≤◌, ◌*◌, ◌++◌, ◌∷◌, ◌||◌, ◌&&◌, [], ℕ, suc, zero, List, Bool, true, false, length, refl, sym, ap, map, filter, set, take, inl, inr, arith, length-append, append_assoc}
 use Rattle.std.proofs.Math.Bool.{or-false}
-use Rattle.std.specs.Prelude.{◌==◌, nat_lt, flat_map}
-use Rattle.std.specs.List.{list_any, range_with_len, sum_by}
-use Rattle.std.proofs.lemmas.Bool.{cases_Bool, cases_lt, cases_eq, or_cases, or_left, or_right, and_parts, and_left, eqb-true, eq-eqb, ne_eqb, lt-ltb}
+use Rattle.std.specs.Prelude.{◌==◌, flat_map}
+use Rattle.std.specs.List.{range_with_len, sum_by}
+use Rattle.std.proofs.lemmas.Bool.{cases_Bool, cases_lt, cases_eq, or_left, or_right, eq-eqb, ne_eqb, lt-ltb}
 use Rattle.std.proofs.lemmas.List.{length-map, take_more, take_all, get_or-set_same, get_or-set_other, get_or_past, length-set, append-nil}
 use Rattle.std.proofs.lemmas.List.Elements.{filter-append}
 use Rattle.std.proofs.lemmas.List.Folds.{list_any-append}
-use Rattle.std.proofs.lemmas.List.FromFn.{length-map-range_with_len, map-range_with_len_more}
 use Rattle.std.proofs.lemmas.List.Sums.{sum_by-append, sum_by-set}
 use Rattle.definitions.specs.declared.Cell.{Cell}
 use Rattle.definitions.specs.Sets.{cell_of, same_cell, holds, row_cells, all_cells}
 use Rattle.definitions.proofs.Members.{cell_test}
 use Rattle.definitions.proofs.Cells.{member_is_within, row_count}
 use Rattle.definitions.proofs.Lists.{filter_all, filter_none}
-use Rattle.alloc_input.specs.Cells.{has_number, numbers_to, distinct_below, covers, with_rectangle}
+use Rattle.alloc_input.specs.Cells.{has_number, numbers_to, covers, with_rectangle}
 use Rattle.alloc_input.specs.Marked.{AreRows, row_of, cells_in_rows}
 use Rattle.alloc_input.specs.Numbers.{AreNumbersBelow, AddsNumbers}
-use Rattle.alloc_input.proofs.NumberFacts.{filter-full, length-filter-le, none_below}
+use Rattle.alloc_input.proofs.NumberFacts.{filter-full, none_below}
 
 -- ---- what a test picks
 

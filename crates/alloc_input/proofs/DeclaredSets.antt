@@ -1,10 +1,9 @@
 -- Each declared object has a set that holds its whole column.
-use Rattle.std.proofs.Common.{◌≡◌, ◌≢◌, ◌∙◌, ◌+◌, ◌-◌, ◌<◌, ◌≤◌, ◌++◌, ◌∷◌, ◌||◌, ◌&&◌, [], ℕ, suc, List, Option, Some, None, Bool, true, false, cond, refl, sym, ap, subst, length, filter, get_or, arith, inl, inr}
+use Rattle.std.proofs.Common.{◌≡◌, ◌∙◌, ◌<◌, ◌∷◌, ◌&&◌, [], ℕ, List, Option, Some, None, Bool, true, false, cond, refl, sym, ap, subst, length, filter, get_or, arith, inl, inr}
 use Rattle.std.specs.Prelude.{◌==◌, not, is_some, nat_le, codes}
-use Rattle.std.specs.List.{Any, AllByRecursion, IsDistinct, filter_map, list_any}
+use Rattle.std.specs.List.{Any, AllByRecursion, IsDistinct, filter_map}
 use Rattle.std.specs.Str.{bytes_eq}
 use Rattle.std.proofs.lemmas.Bool.{cases_Bool, cases_lt, cases_eq, or_cases, or_left, or_right, and_parts, both_ways, leb-true, ne_eqb}
-use Rattle.std.proofs.lemmas.List.{append-nil}
 use Rattle.std.proofs.lemmas.List.Elements.{filter_map-append}
 use Rattle.std.proofs.lemmas.List.Folds.{list_any-append}
 use Rattle.std.proofs.lemmas.List.Quantifiers.{position-Some}
@@ -15,13 +14,11 @@ use Rattle.definitions.specs.Values.{HoldsColumn}
 use Rattle.definitions.proofs.Members.{name_test, member_at}
 use Rattle.alloc_input.specs.Objects.{each_once, declared, declared_name}
 use Rattle.alloc_input.specs.Stated.{Setting, Stated, word_of, add_object, add_row, add_demand, add_group, add_bundle, add_set, add_cells, add_kind, add_record, stated_from, stated_by, setting_of, nothing}
-use Rattle.alloc_input.specs.Quotas.{quotas_fault}
-use Rattle.alloc_input.specs.Problems.{AreStatedFor, LawfulQuotasSuit}
+use Rattle.alloc_input.specs.Problems.{LawfulQuotasSuit}
 use Rattle.alloc_input.specs.declared.words.Word.{Word}
 use Rattle.alloc_input.specs.declared.words.Word.TheVariants as word
 use Rattle.alloc_input.proofs.KnownNames.{is_some-name_index}
 use Rattle.alloc_input.proofs.OnceEach.{has-each_once}
-use Rattle.alloc_input.proofs.Reading.{stated_more}
 use Rattle.alloc_input.proofs.StatedChecks.{some-value}
 use Rattle.alloc_input.proofs.StatedSets.{IsSolveStated, solve-stated}
 

@@ -1,6 +1,6 @@
 -- The entries of an agent's record, one after the other.
 use Rattle.std.proofs.Common.{◌≡◌, ◌∙◌, ◌+◌, ◌-◌, ◌*◌, ◌/◌, ◌<◌, ◌≤◌, ◌++◌, ◌∷◌, [], ℕ, suc, List, refl, sym, ap, subst, length, map, get_or, take, inl, inr, arith, append_assoc}
-use Rattle.std.specs.Prelude.{nat_lt, nat_le, flat_map}
+use Rattle.std.specs.Prelude.{nat_lt, nat_le}
 use Rattle.std.specs.List.{AllZip}
 use Rattle.std.proofs.Math.Nat.{div-lt_iff_lt-mul, mul-le-mul_left}
 use Rattle.std.proofs.lemmas.Bool.{cases_lt, lt-ltb, le-ltb, le-leb, lt-leb}
@@ -12,7 +12,7 @@ use Rattle.definitions.specs.Texts.{Row, field}
 use Rattle.definitions.specs.Values.{Ratio}
 use Rattle.scaled_matrix.specs.Entries.{ratio_of, ratios_of}
 use Rattle.alloc_input.specs.Matrices.{IsSameShare, entry_texts, share_in, shares_of}
-use Rattle.alloc_input.specs.MatrixReading.{AddsShares, AreShares}
+use Rattle.alloc_input.specs.MatrixReading.{AddsShares}
 
 -- a quotient tells whether a share is at most 1,000
 pub limit-by-quotient : (num den : ℕ) → 0 < den → nat_lt ((num - 1) / den) 1000 ≡ nat_le num (1000 * den)

@@ -1,6 +1,6 @@
 -- A family under construction grows by a set, or by cells of one set.
-use Rattle.std.proofs.Common.{◌≡◌, ◌∙◌, ◌+◌, ◌-◌, ◌<◌, ◌≤◌, ◌++◌, ◌∷◌, [], ℕ, suc, zero, List, Option, Some, None, length, refl, sym, ap, map, get_or, set, arith, inl, inr, length-append, All}
-use Rattle.std.specs.Prelude.{nat_le, slice_set, slice_index_or, sum_by}
+use Rattle.std.proofs.Common.{◌≡◌, ◌∙◌, ◌+◌, ◌-◌, ◌<◌, ◌≤◌, ◌++◌, ◌∷◌, [], ℕ, List, Some, None, length, refl, sym, ap, get_or, set, arith, inl, inr, length-append}
+use Rattle.std.specs.Prelude.{nat_le, slice_index_or}
 use Rattle.std.proofs.lemmas.Bool.{le-leb, lt-leb, cases_lt}
 use Rattle.std.proofs.lemmas.List.{map-set, length-map, length-set, set_past, get_or-map, map_push}
 use Rattle.std.proofs.lemmas.List.Sums.{sum_by-set, sum_by-append}
@@ -8,15 +8,12 @@ use Rattle.std.proofs.lemmas.List.Elements.{All-set, All-push}
 use Rattle.definitions.specs.declared.Cell.{Cell}
 use Rattle.definitions.specs.Sets.{SetValue, cells_in}
 use Rattle.alloc_input.specs.Cells.{with_rectangle}
-use Rattle.alloc_input.specs.Checks.{need, first_of, StopsAt}
+use Rattle.alloc_input.specs.Checks.{need}
 use Rattle.alloc_input.specs.Marked.{marked_cells, IsMarked, IsGrown}
 use Rattle.alloc_input.specs.Stated.{with_rectangle_in, empty_set, grown_at}
 use Rattle.alloc_input.specs.Quotas.{check_limits}
-use Rattle.alloc_input.specs.Reading.{set_value, values, IsOpen, IsCounted, AreQuotas}
-use Rattle.alloc_input.specs.declared.faults.InputKind.{InputKind}
+use Rattle.alloc_input.specs.Reading.{set_value, values, IsOpen, IsCounted}
 use Rattle.alloc_input.specs.declared.faults.InputKind.TheVariants as kind
-use Rattle.alloc_input.specs.declared.faults.Stop.{Stop}
-use Rattle.alloc_input.specs.declared.faults.Stop.TheVariants as stop
 use Rattle.alloc_input.specs.declared.marks.Marks.{Marks}
 use Rattle.alloc_input.specs.declared.open_sets.OpenSet.{OpenSet}
 use Rattle.alloc_input.proofs.CellFacts.{count_is}

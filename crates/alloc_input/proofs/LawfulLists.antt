@@ -1,16 +1,16 @@
 -- The lists that lawful preferences state are lawful.
-use Rattle.std.proofs.Common.{◌≡◌, ◌≢◌, ◌==◌, ◌||◌, ◌∙◌, ◌+◌, ◌-◌, ◌<◌, ◌≤◌, ◌++◌, ◌∷◌, [], ℕ, suc, List, Option, Some, None, Bool, true, false, cond, All, nat_eq, refl, sym, ap, subst, length, drop, map, get_or, arith, inl, inr, ◌⊎◌, ltb}
-use Rattle.std.specs.Prelude.{not, slice_get, is_none}
+use Rattle.std.proofs.Common.{◌≡◌, ◌≢◌, ◌==◌, ◌∙◌, ◌-◌, ◌<◌, ◌≤◌, ◌++◌, ◌∷◌, [], ℕ, List, Option, Some, None, Bool, true, false, cond, All, nat_eq, refl, sym, ap, subst, length, drop, map, get_or, arith, inl, inr, ◌⊎◌}
+use Rattle.std.specs.Prelude.{not, slice_get}
 use Rattle.std.specs.Cmp.{nat_eq_equiv}
-use Rattle.std.specs.List.{IsDistinct, list_all, list_any, filter_map}
-use Rattle.std.specs.Str.{bytes_eq, is_utf8}
-use Rattle.std.proofs.lemmas.Bool.{cases_Bool, ltb-true, ne_eqb, not-true}
-use Rattle.std.proofs.lemmas.List.{append-nil, length-map, length_push, get_or_append_left, map-append}
+use Rattle.std.specs.List.{IsDistinct, list_any, filter_map}
+use Rattle.std.specs.Str.{bytes_eq}
+use Rattle.std.proofs.lemmas.Bool.{cases_Bool, ltb-true, ne_eqb}
+use Rattle.std.proofs.lemmas.List.{append-nil, length-map, length_push, map-append}
 use Rattle.std.proofs.lemmas.List.Elements.{All-nil, All-push, filter_map-append}
 use Rattle.std.proofs.lemmas.List.Folds.{list_any_none}
 use Rattle.std.proofs.lemmas.List.Quantifiers.{position-Some}
 use Rattle.std.proofs.lemmas.Map.Keys.{IsDistinct-push}
-use Rattle.definitions.specs.Texts.{Row, first_field, is_name, name_index, null_name}
+use Rattle.definitions.specs.Texts.{Row, first_field, name_index, null_name}
 use Rattle.definitions.specs.Values.{IsListUpTo}
 use Rattle.definitions.proofs.Passed.{passed, among-keeps, fault-keeps, fault-ends}
 use Rattle.alloc_input.specs.Prefs.{filled_rows, has_header, agent_rows, agents_of, lists_of, list_of, column_of, columns_of, check_column, check_choice, check_choices, check_agent, check_record, check_end, fault_of}

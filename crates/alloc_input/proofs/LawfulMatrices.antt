@@ -1,14 +1,13 @@
 -- What a lawful text of a matrix gives: names within the limits.
-use Rattle.std.proofs.Common.{◌≡◌, ◌≢◌, ◌==◌, ◌∙◌, ◌+◌, ◌*◌, ◌<◌, ◌≤◌, ◌||◌, ◌&&◌, ◌++◌, ◌∷◌, [], ℕ, suc, List, Option, Some, None, Bool, true, false, cond, All, refl, sym, ap, subst, length, map, get_or, drop, inl, inr, ◌⊎◌, arith}
-use Rattle.std.specs.Prelude.{not, nat_lt, is_none}
-use Rattle.std.specs.List.{list_all, list_any}
+use Rattle.std.proofs.Common.{◌≡◌, ◌==◌, ◌∙◌, ◌*◌, ◌<◌, ◌≤◌, ◌++◌, ◌∷◌, [], ℕ, List, Option, Some, None, Bool, true, false, cond, All, refl, sym, ap, subst, length, map, get_or, drop, inl, inr, arith}
+use Rattle.std.specs.Prelude.{not}
+use Rattle.std.specs.List.{list_all}
 use Rattle.std.specs.Str.{bytes_eq, is_utf8}
 use Rattle.std.proofs.lemmas.Bool.{and_parts, cases_Bool, ltb-true}
 use Rattle.std.proofs.lemmas.List.{length_push, map-append, length-map}
 use Rattle.std.proofs.lemmas.List.Elements.{All-map, All-nil, All-push}
 use Rattle.std.proofs.lemmas.List.Folds.{list_any-append}
 use Rattle.frac128.specs.declared.fractions.Fraction.{Fraction}
-use Rattle.definitions.specs.Firsts.{first_among}
 use Rattle.definitions.specs.Texts.{Row, first_field, has_name, is_name, null_name}
 use Rattle.definitions.proofs.Passed.{passed, among-keeps, fault-keeps, fault-ends}
 use Rattle.quota_sets.specs.NameList.{AreNames}
@@ -16,9 +15,8 @@ use Rattle.scaled_matrix.specs.Entries.{IsShare, IsShares, ratio_of, shares_from
 use Rattle.alloc_input.specs.Matrices.{IsMatrix, check_header, check_heading, check_matrix, check_shares, matrix_fault, objects_of}
 use Rattle.alloc_input.specs.MatrixReading.{AreLimited, IsMatrixAfter}
 use Rattle.alloc_input.specs.Prefs.{agents_of, check_end, filled_rows, has_header}
-use Rattle.alloc_input.specs.declared.faults.InputKind.{InputKind}
 use Rattle.alloc_input.specs.declared.matrix.State.{State}
-use Rattle.alloc_input.proofs.AfterRecords.{filled_rows-blank, filled_rows-more, drop-more}
+use Rattle.alloc_input.proofs.AfterRecords.{filled_rows-blank, filled_rows-more}
 use Rattle.alloc_input.proofs.LawfulLists.{some-agents}
 use Rattle.alloc_input.proofs.MatrixRecords.{length-entries, none-filled}
 use Rattle.alloc_input.proofs.MatrixSuits.{other-name}

@@ -1,12 +1,12 @@
 -- A set of cells grows, one row and one agent after another.
-use Rattle.std.proofs.Common.{◌≡◌, ◌∙◌, ◌+◌, ◌<◌, ◌≤◌, ◌*◌, ◌++◌, ◌∷◌, [], ℕ, List, Option, Some, None, Result, Ok, Err, length, refl, sym, ap, map, filter, get_or, take, drop, arith, subst}
+use Rattle.std.proofs.Common.{◌≡◌, ◌∙◌, ◌+◌, ◌<◌, ◌≤◌, ◌*◌, ◌++◌, ◌∷◌, [], ℕ, List, Some, None, Result, length, refl, sym, ap, map, filter, get_or, take, drop, arith}
 use Rattle.std.specs.Prelude.{nat_le}
 use Rattle.std.proofs.lemmas.Bool.{le-leb, lt-leb}
 use Rattle.std.proofs.lemmas.List.{take_more, take_all, take-append-drop}
 use Rattle.definitions.specs.declared.Cell.{Cell}
-use Rattle.definitions.specs.Sets.{cell_of, all_cells, row_cells}
+use Rattle.definitions.specs.Sets.{cell_of, all_cells}
 use Rattle.alloc_input.specs.Cells.{with_rectangle}
-use Rattle.alloc_input.specs.Checks.{Checks, StopsAt, need}
+use Rattle.alloc_input.specs.Checks.{Checks, need}
 use Rattle.alloc_input.specs.Marked.{AreRows, IsGrown, row_of, cells_in_rows, marked_cells}
 use Rattle.alloc_input.specs.Numbers.{AreNumbersBelow}
 use Rattle.alloc_input.specs.declared.marks.Marks.{Marks}

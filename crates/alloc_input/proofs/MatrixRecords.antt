@@ -1,7 +1,7 @@
 -- One more record of a matrix.
-use Rattle.std.proofs.Common.{◌≡◌, ◌≢◌, ◌==◌, ◌∙◌, ◌+◌, ◌*◌, ◌++◌, ◌∷◌, [], ℕ, suc, List, Option, Some, None, Bool, true, false, cond, refl, sym, ap, subst, length, map, get_or, drop, length-append, arith}
+use Rattle.std.proofs.Common.{◌≡◌, ◌==◌, ◌∙◌, ◌+◌, ◌*◌, ◌++◌, ◌∷◌, [], ℕ, suc, List, None, Bool, true, false, refl, sym, ap, subst, length, map, get_or, drop, length-append, arith}
 use Rattle.std.specs.Prelude.{not, flat_map}
-use Rattle.std.specs.List.{AllZip, list_all}
+use Rattle.std.specs.List.{list_all}
 use Rattle.std.specs.Str.{is_utf8}
 use Rattle.std.proofs.lemmas.Bool.{ne_eqb}
 use Rattle.std.proofs.lemmas.Grind.{flat_map-append}
@@ -10,12 +10,10 @@ use Rattle.std.proofs.lemmas.List.Elements.{length_all_zip}
 use Rattle.frac128.specs.declared.fractions.Fraction.{Fraction}
 use Rattle.definitions.specs.Texts.{Row, first_field}
 use Rattle.definitions.specs.Values.{Ratio}
-use Rattle.definitions.proofs.Passed.{passed}
 use Rattle.scaled_matrix.specs.Entries.{ratio_of, ratios_of}
 use Rattle.alloc_input.specs.Matrices.{IsSameShare, all_shares, check_header, check_matrix, check_shares, objects_of, shares_of}
 use Rattle.alloc_input.specs.MatrixReading.{AddsShares, AreShares, IsMatrixAfter}
-use Rattle.alloc_input.specs.Prefs.{agent_rows, agents_of, filled_rows, has_header}
-use Rattle.alloc_input.specs.declared.faults.InputKind.{InputKind}
+use Rattle.alloc_input.specs.Prefs.{agent_rows, filled_rows}
 use Rattle.alloc_input.specs.declared.matrix.State.{State}
 use Rattle.alloc_input.proofs.AfterRecords.{filled_rows-blank, filled_rows-more, header-kept}
 use Rattle.alloc_input.proofs.EntryFacts.{length-shares}

@@ -1,12 +1,10 @@
 -- One more field of a group or bundle.
-use Rattle.std.proofs.Common.{◌≡◌, ◌∙◌, ◌+◌, ◌<◌, ◌≤◌, ◌++◌, ◌∷◌, [], ℕ, suc, zero, List, Bool, Option, Some, None, length, refl, sym, ap, map, drop, take, get_or, add-one, drop-cons, arith}
+use Rattle.std.proofs.Common.{◌≡◌, ◌∙◌, ◌+◌, ◌<◌, ◌≤◌, ◌++◌, ◌∷◌, [], ℕ, List, Option, Some, None, length, refl, sym, map, drop, take, get_or, add-one, drop-cons}
 use Rattle.std.specs.List.{filter_map}
-use Rattle.std.proofs.lemmas.List.{take_more, drop_all, take_all, get_or-drop}
+use Rattle.std.proofs.lemmas.List.{take_more, drop_all}
 use Rattle.std.proofs.lemmas.List.Elements.{filter_map-append}
-use Rattle.alloc_input.specs.Checks.{StopsAt, first_of}
+use Rattle.alloc_input.specs.Checks.{first_of}
 use Rattle.alloc_input.specs.declared.faults.InputKind.{InputKind}
-use Rattle.alloc_input.specs.declared.faults.Stop.{Stop}
-use Rattle.alloc_input.specs.declared.faults.Stop.TheVariants as stop
 
 module _ (f : List ℕ → Option InputKind) (fs : List (List ℕ)) (j : ℕ) where
   pub field_here : (k : InputKind) → j < length fs → f (get_or fs j []) ≡ Some k → first_of (map f (drop j fs)) ≡ Some k

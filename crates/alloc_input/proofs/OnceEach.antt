@@ -1,12 +1,12 @@
 -- One more name after names that stand there once each.
 use Rattle.std.proofs.Common.{◌≡◌, ◌∙◌, ◌||◌, ◌++◌, ◌∷◌, [], ℕ, List, Option, Some, None, Bool, true, false, refl, sym, ap, subst, inl, inr}
 use Rattle.std.specs.Prelude.{not, filter, if◌then◌else◌}
-use Rattle.std.specs.List.{filter_map, list_any}
+use Rattle.std.specs.List.{filter_map}
 use Rattle.std.specs.Str.{bytes_eq}
 use Rattle.std.proofs.lemmas.Bool.{cases_Bool}
 use Rattle.std.proofs.lemmas.List.{append-nil}
 use Rattle.std.proofs.lemmas.List.Elements.{filter-append, filter_map-append}
-use Rattle.definitions.specs.Texts.{Row, has_name, name_index}
+use Rattle.definitions.specs.Texts.{Row, has_name}
 use Rattle.definitions.proofs.Members.{name_test}
 use Rattle.alloc_input.specs.Objects.{each_once, declared, declared_name, with_name}
 

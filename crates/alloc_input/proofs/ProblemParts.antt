@@ -1,5 +1,5 @@
 -- What lawful preferences and quotas state are the parts of a problem.
-use Rattle.std.proofs.Common.{◌≡◌, ◌∙◌, ◌<◌, ◌≤◌, ℕ, List, None, true, All, sym, ap, subst, length}
+use Rattle.std.proofs.Common.{◌≡◌, ◌≤◌, ℕ, List, None, true, All, sym, ap, subst, length}
 use Rattle.std.specs.List.{Any}
 use Rattle.definitions.specs.Sets.{FamilyValue, SetValue, cells_in}
 use Rattle.definitions.specs.Texts.{Row}
@@ -9,7 +9,7 @@ use Rattle.alloc_input.specs.Objects.{declared}
 use Rattle.alloc_input.specs.PrefsReading.{ArePreferences}
 use Rattle.alloc_input.specs.Problems.{AreStatedFor}
 use Rattle.alloc_input.specs.Quotas.{quotas_fault, family_of}
-use Rattle.alloc_input.specs.Stated.{Setting, setting_of, stated_by}
+use Rattle.alloc_input.specs.Stated.{setting_of, stated_by}
 use Rattle.alloc_input.proofs.DeclaredSets.{lawful-quotas-suit}
 
 module _ (agents objects : List (List ℕ)) (rows : List Row) (same : objects ≡ declared rows) (few : length agents ≤ 1000) (lawful : quotas_fault (setting_of agents objects true) rows ≡ None) where

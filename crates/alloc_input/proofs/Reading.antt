@@ -1,5 +1,5 @@
 -- One more record of a text.
-use Rattle.std.proofs.Common.{◌≡◌, ◌∙◌, ◌+◌, ◌<◌, ◌≤◌, ◌++◌, ◌∷◌, [], ℕ, List, Option, Some, true, length, refl, sym, take, get_or, arith}
+use Rattle.std.proofs.Common.{◌≡◌, ◌∙◌, ◌+◌, ◌<◌, ◌≤◌, ◌++◌, ◌∷◌, [], ℕ, List, true, length, refl, sym, take, get_or, arith}
 use Rattle.std.specs.Prelude.{nat_le}
 use Rattle.std.proofs.lemmas.Bool.{and_parts, leb-true}
 use Rattle.alloc_input.specs.Quotas.{fields_fit}
@@ -7,12 +7,7 @@ use Rattle.alloc_input.specs.declared.words.Word.{Word}
 use Rattle.alloc_input.specs.declared.words.Word.TheVariants as word
 use Rattle.std.proofs.lemmas.List.{take_more}
 use Rattle.definitions.specs.Texts.{Row}
-use Rattle.alloc_input.specs.Checks.{StopsAt, Tells, IsRefusalFor}
 use Rattle.alloc_input.specs.Stated.{Setting, Stated, add_record, stated_from, nothing}
-use Rattle.alloc_input.specs.declared.faults.InputKind.{InputKind}
-use Rattle.alloc_input.specs.declared.faults.InputRefusal.{InputRefusal}
-use Rattle.alloc_input.specs.declared.faults.Stop.{Stop}
-use Rattle.alloc_input.specs.declared.faults.Stop.TheVariants as stop
 
 pub stated_more : (g : Setting) (st : Stated) (xs : List Row) (r : Row) → stated_from g st (xs ++ r ∷ []) ≡ add_record g (stated_from g st xs) r
 unfolding stated_from

@@ -1,12 +1,10 @@
 -- The cells of a rectangle that is added to a set.
-use Rattle.std.proofs.Common.{◌≡◌, ◌∙◌, ◌+◌, ◌<◌, ◌≤◌, ◌++◌, ◌∷◌, ◌||◌, ◌&&◌, [], ℕ, suc, zero, List, Bool, true, false, All, length, refl, sym, ap, map, filter, get_or, inl, inr, arith}
-use Rattle.std.specs.Prelude.{◌==◌, flat_map}
-use Rattle.std.specs.List.{list_any, range_with_len}
-use Rattle.std.proofs.lemmas.Bool.{cases_Bool, cases_eq, or_cases, or_left, or_right, and_parts, and_from, eqb-true, eq-eqb}
+use Rattle.std.proofs.Common.{◌≡◌, ◌∙◌, ◌<◌, ◌∷◌, ◌||◌, [], ℕ, List, Bool, true, false, All, refl, filter, get_or, arith}
+use Rattle.std.specs.Prelude.{◌==◌}
+use Rattle.std.proofs.lemmas.Bool.{or_left, or_right, and_from, eq-eqb}
 use Rattle.std.proofs.lemmas.List.Elements.{All-filter}
-use Rattle.std.proofs.lemmas.List.Folds.{list_any-append}
 use Rattle.definitions.specs.declared.Cell.{Cell}
-use Rattle.definitions.specs.Sets.{cell_of, same_cell, holds, row_cells, all_cells}
+use Rattle.definitions.specs.Sets.{cell_of, same_cell, holds, all_cells}
 use Rattle.definitions.proofs.Members.{cell_test, member_at}
 use Rattle.alloc_input.specs.Cells.{has_number, numbers_to, covers, with_rectangle}
 use Rattle.definitions.proofs.Cells.{within_is_member, member_is_within}

@@ -1,15 +1,14 @@
 -- The cells of a matrix rise, and so do those that a test picks.
-use Rattle.std.proofs.Common.{◌≡◌, ◌+◌, ◌-◌, ◌<◌, ◌≤◌, ◌++◌, ◌∷◌, ◌⊎◌, [], ℕ, suc, zero, List, Bool, length, refl, sym, ap, map, filter, inl, inr, arith, take, get_or, All, ◌∙◌}
-use Rattle.std.specs.Prelude.{flat_map, AllPairs}
+use Rattle.std.proofs.Common.{◌≡◌, ◌+◌, ◌<◌, ◌≤◌, ◌++◌, ◌∷◌, ◌⊎◌, [], ℕ, suc, zero, List, length, refl, sym, ap, map, inl, inr, arith, take, get_or, All, ◌∙◌}
+use Rattle.std.specs.Prelude.{flat_map}
 use Rattle.std.specs.List.{range_with_len}
-use Rattle.std.proofs.lemmas.List.{take_more, map-append, map_push}
-use Rattle.std.proofs.lemmas.List.Elements.{All-nil, All-cons, All-append, All-weaker, All-filter, All-from_get_or}
+use Rattle.std.proofs.lemmas.List.{take_more, map_push}
+use Rattle.std.proofs.lemmas.List.Elements.{All-nil, All-cons, All-append, All-weaker, All-filter}
 use Rattle.std.proofs.lemmas.List.Kept.{AllPairs-cons, AllPairs-filter}
 use Rattle.definitions.specs.declared.Cell.{Cell}
 use Rattle.definitions.specs.Sets.{SetValue, IsQuotaSet, IsInRange, IsCellWithin, IsRising, IsBefore, cell_of, row_cells, all_cells}
 use Rattle.definitions.proofs.Members.{cell_test, member_at}
-use Rattle.alloc_input.specs.Marked.{cells_in_rows, marked_cells, row_of}
-use Rattle.alloc_input.specs.Cells.{has_number}
+use Rattle.alloc_input.specs.Marked.{cells_in_rows, marked_cells}
 use Rattle.alloc_input.specs.Reading.{set_value, values, IsOpen, AreQuotas}
 use Rattle.alloc_input.specs.declared.marks.Marks.{Marks}
 use Rattle.alloc_input.specs.declared.open_sets.OpenSet.{OpenSet}

@@ -1,7 +1,6 @@
 -- What a record of quotas for `solve` keeps to, where it passes its checks.
-use Rattle.std.proofs.Common.{◌≡◌, ◌∙◌, ◌<◌, ◌≤◌, ◌||◌, ◌&&◌, ◌∷◌, [], ℕ, zero, suc, List, Option, Some, None, Bool, true, false, cond, refl, sym, ap, length, get_or, arith}
-use Rattle.std.specs.Prelude.{◌==◌, not, is_some, sum, nat_le, nat_lt}
-use Rattle.std.specs.Option.{option_or}
+use Rattle.std.proofs.Common.{◌≡◌, ◌<◌, ◌≤◌, ◌||◌, ◌∷◌, [], ℕ, zero, suc, List, Option, Some, None, Bool, true, false, refl, length, get_or, arith}
+use Rattle.std.specs.Prelude.{◌==◌, not, is_some, sum, nat_le}
 use Rattle.std.specs.Str.{bytes_eq}
 use Rattle.std.proofs.lemmas.Bool.{leb-true, ltb-true, eqb-true}
 use Rattle.definitions.specs.Sets.{SetValue, cells_in}

@@ -1,10 +1,9 @@
 -- The sets and demands of lawful quotas for `solve`, record by record.
-use Rattle.std.proofs.Common.{◌≡◌, ◌≢◌, ◌∙◌, ◌+◌, ◌*◌, ◌<◌, ◌≤◌, ◌++◌, ◌∷◌, ◌||◌, [], ℕ, suc, List, Option, Some, None, Bool, true, false, cond, All, refl, sym, ap, subst, length, get_or, set, arith, inl, inr}
-use Rattle.std.specs.Prelude.{◌==◌, replicate, sum, slice_get, not, unwrap_or}
-use Rattle.std.specs.List.{Any, list_all, list_any}
-use Rattle.std.specs.Option.{option_or}
+use Rattle.std.proofs.Common.{◌≡◌, ◌∙◌, ◌<◌, ◌≤◌, ◌++◌, ◌∷◌, ◌||◌, [], ℕ, List, Option, Some, None, Bool, true, false, cond, All, refl, sym, ap, subst, length, get_or, set, arith, inl, inr}
+use Rattle.std.specs.Prelude.{◌==◌, not, unwrap_or}
+use Rattle.std.specs.List.{Any, list_all}
 use Rattle.std.specs.Str.{bytes_eq, is_utf8}
-use Rattle.std.proofs.lemmas.Bool.{cases_Bool, cases_lt, cases_eq, or_cases}
+use Rattle.std.proofs.lemmas.Bool.{cases_lt, cases_eq, or_cases}
 use Rattle.std.proofs.lemmas.List.{length-set, length_push, length-replicate, get_or_append_left, get_or-set_other, set_past}
 use Rattle.std.proofs.lemmas.List.Elements.{All-nil, All-push, All-set, All-replicate}
 use Rattle.std.proofs.lemmas.List.Folds.{list_any-append, sum_by-replicate}

@@ -1,12 +1,12 @@
 -- A check after others, and what a record adds.
-use Rattle.std.proofs.Common.{◌≡◌, ◌∙◌, ◌+◌, ◌++◌, ◌∷◌, [], ℕ, suc, zero, List, Bool, Option, Some, None, Result, Ok, Err, length, refl, sym, ap, subst, true, false}
+use Rattle.std.proofs.Common.{◌≡◌, ◌∙◌, ◌++◌, ◌∷◌, [], ℕ, List, Option, Some, None, Result, Ok, Err, length, refl, sym, false}
 use Rattle.std.specs.Option.{option_or}
 use Rattle.std.specs.Prelude.{sum, slice_set, nat_le}
 use Rattle.std.specs.Result.{is_err}
 use Rattle.definitions.specs.Sets.{SetValue}
 use Rattle.definitions.specs.Texts.{Row, field, name_index}
 use Rattle.alloc_input.specs.Cells.{numbers_to}
-use Rattle.alloc_input.specs.Checks.{Checks, StopsAt, need}
+use Rattle.alloc_input.specs.Checks.{Checks, need}
 use Rattle.alloc_input.specs.Stated.{Setting, Stated, floor_at, ceiling_at, add_object, add_row, add_demand, add_set, with_rectangle_in, empty_set, side_of, grown_at, add_cells, place_named, agents_named, columns_named}
 use Rattle.alloc_input.specs.Quotas.{check_limits}
 use Rattle.alloc_input.specs.declared.faults.InputKind.{InputKind}

@@ -1,5 +1,5 @@
 -- What stops and refusals say of checks, along other checks.
-use Rattle.std.proofs.Common.{◌≡◌, ◌∙◌, ℕ, Option, Some, None, Result, Ok, Err, refl, sym, subst}
+use Rattle.std.proofs.Common.{◌≡◌, ◌∙◌, ℕ, Option, Some, Result, Ok, Err, refl, sym, subst}
 use Rattle.alloc_input.specs.Checks.{Checks, StopsAt, IsRefusalFor, Tells}
 use Rattle.alloc_input.specs.declared.faults.InputKind.{InputKind}
 use Rattle.alloc_input.specs.declared.faults.InputRefusal.{InputRefusal}

@@ -2,7 +2,6 @@
 use Rattle.std.proofs.Common.{◌≡◌, ◌≤◌, List, ℕ, None, length, true, sym, subst}
 use Rattle.definitions.specs.Texts.{Row}
 use Rattle.table_text.specs.Rows.{IsTextOf}
-use Rattle.alloc_input.specs.Objects.{declared}
 use Rattle.alloc_input.specs.Stated.{setting_of, is_solve}
 use Rattle.alloc_input.specs.Quotas.{quotas_fault, IsReadFor}
 use Rattle.alloc_input.specs.declared.mode.Mode.{Mode}

@@ -1,5 +1,5 @@
 -- Numbers and cells that grow by lists of numbers and by rectangles.
-use Rattle.std.specs.Prelude.{◌≡◌, ◌==◌, ◌&&◌, ◌||◌, ℕ, Bool, List, filter}
+use Rattle.std.specs.Prelude.{◌==◌, ◌&&◌, ◌||◌, ℕ, Bool, List, filter}
 use Rattle.std.specs.List.{list_any, range_with_len}
 use Rattle.definitions.specs.declared.Cell.{Cell}
 use Rattle.definitions.specs.Sets.{all_cells, holds}

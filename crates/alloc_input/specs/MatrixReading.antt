@@ -1,5 +1,5 @@
 -- What the parts of the reader of a matrix answer.
-use Rattle.std.specs.Prelude.{◌≡◌, ◌≤◌, ◌*◌, ◌++◌, ◌∷◌, [], ℕ, List, All, Result, MatchResult}
+use Rattle.std.specs.Prelude.{◌≡◌, ◌≤◌, ◌*◌, ◌++◌, ◌∷◌, [], List, All, Result, MatchResult}
 use Rattle.std.specs.List.{AllZip}
 use Rattle.definitions.specs.Texts.{Row}
 use Rattle.definitions.specs.Values.{Ratio, SharesValue}

@@ -1,5 +1,5 @@
 -- How a text of preferences reads, over the declared objects.
-use Rattle.std.specs.Prelude.{◌≡◌, ◌==◌, ◌||◌, ℕ, Bool, not, List, [], ◌∷◌, ◌++◌, Option, Some, None, length, map, filter, drop, codes, if◌then◌else◌, nat_lt, is_some, is_none}
+use Rattle.std.specs.Prelude.{◌≡◌, ◌==◌, ◌||◌, ℕ, Bool, not, List, [], ◌∷◌, ◌++◌, Option, Some, None, length, map, filter, drop, codes, if◌then◌else◌, nat_lt, is_none}
 use Rattle.std.specs.List.{list_any, list_all, filter_map}
 use Rattle.std.specs.Str.{bytes_eq, is_utf8}
 use Rattle.definitions.specs.Firsts.{fault_after, first_among, tests}

@@ -1,5 +1,5 @@
 -- How a text of quotas reads: the checks of its records, kind by kind, in their order, and what they state.
-use Rattle.std.specs.Prelude.{◌≡◌, ◌≤◌, ◌+◌, ◌==◌, ◌||◌, ◌&&◌, ◌∷◌, ℕ, Bool, false, not, List, [], Option, Some, None, length, map, drop, sum, codes, nat_lt, nat_le, is_some, if◌then◌else◌}
+use Rattle.std.specs.Prelude.{◌≡◌, ◌≤◌, ◌+◌, ◌==◌, ◌||◌, ◌&&◌, ◌∷◌, ℕ, Bool, false, not, List, [], Option, Some, None, length, map, drop, sum, nat_lt, nat_le, is_some, if◌then◌else◌}
 use Rattle.std.specs.List.{list_all}
 use Rattle.std.specs.Option.{option_or}
 use Rattle.std.specs.Str.{bytes_eq, is_utf8}
@@ -9,7 +9,7 @@ use Rattle.definitions.specs.Texts.{Row, field, is_name, name_index, has_name, n
 use Rattle.table_text.specs.Rows.{IsTextOf}
 use Rattle.alloc_input.specs.Checks.{need, first_of}
 use Rattle.alloc_input.specs.Objects.{declared}
-use Rattle.alloc_input.specs.Stated.{Setting, Stated, setting_of, is_solve, word_of, quota_of, floor_at, ceiling_at, side_of, agents_named, columns_named, place_named, add_object, add_row, add_demand, add_set, add_cells, stated_by}
+use Rattle.alloc_input.specs.Stated.{Setting, Stated, word_of, quota_of, floor_at, ceiling_at, side_of, agents_named, columns_named, place_named, add_object, add_row, add_demand, add_set, add_cells, stated_by}
 use Rattle.alloc_input.specs.declared.faults.InputKind.{InputKind}
 use Rattle.alloc_input.specs.declared.faults.InputKind.TheVariants as kind
 use Rattle.alloc_input.specs.declared.faults.InputRefusal.{InputRefusal}

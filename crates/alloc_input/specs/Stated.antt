@@ -1,5 +1,5 @@
 -- What some records of a text of quotas have stated, and what one more record adds.
-use Rattle.std.specs.Prelude.{◌≡◌, ◌+◌, ◌==◌, ◌||◌, ◌&&◌, ◌++◌, ◌∷◌, ℕ, Bool, true, false, List, [], Option, Some, None, length, map, drop, codes, if◌then◌else◌, slice_get, slice_index_or, slice_set, unwrap_or, replicate}
+use Rattle.std.specs.Prelude.{◌==◌, ◌++◌, ◌∷◌, ℕ, Bool, true, false, List, [], Option, Some, None, length, drop, codes, if◌then◌else◌, slice_get, slice_index_or, slice_set, unwrap_or, replicate}
 use Rattle.std.specs.List.{filter_map}
 use Rattle.std.specs.Str.{bytes_eq}
 use Rattle.definitions.specs.Sets.{SetValue}

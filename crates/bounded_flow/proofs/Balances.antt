@@ -6,7 +6,7 @@ use Rattle.std.proofs.lemmas.List.{length-map}
 use Rattle.std.proofs.lemmas.List.Sums.{sum_by-cons}
 use Rattle.bounded_flow.specs.declared.edge.Edge.{Edge}
 use Rattle.bounded_flow.specs.Edges.{wire}
-use Rattle.bounded_flow.specs.Flows.{out_of, into, Balanced, Owes, IsInside}
+use Rattle.bounded_flow.specs.Flows.{Balanced, Owes, IsInside}
 
 -- equal lists of wires have equal lengths
 pub wires_many : (xs ys : List Edge) → map wire xs ≡ map wire ys → length xs ≡ length ys

@@ -1,9 +1,9 @@
 -- The search, node by node.
-use Rattle.std.proofs.Common.{◌≡◌, ℕ, ◌+◌, ◌<◌, ◌≤◌, ◌⊎◌, Bool, true, false, cond, ltb, List, length, get_or, refl, ap, sym, ◌∙◌, subst, inl, inr, arith, All}
+use Rattle.std.proofs.Common.{◌≡◌, ℕ, ◌+◌, ◌<◌, ◌≤◌, Bool, true, false, cond, ltb, List, length, get_or, ap, sym, ◌∙◌, inl, inr, arith, All}
 use Rattle.std.proofs.lemmas.Bool.{cases_eq}
 use Rattle.bounded_flow.specs.declared.edge.Edge.{Edge}
 use Rattle.bounded_flow.specs.declared.search.Search.{Search}
-use Rattle.bounded_flow.specs.Edges.{gap_of, enters, leaves}
+use Rattle.bounded_flow.specs.Edges.{enters, leaves}
 use Rattle.bounded_flow.specs.Flows.{IsInside}
 use Rattle.bounded_flow.specs.Searches.{Reached, IsLater, IsFollowed, IsExplored}
 

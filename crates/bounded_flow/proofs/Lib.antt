@@ -14,6 +14,7 @@ pub mod Mending
 pub mod Pushes
 pub mod Repairs
 pub mod Resets
+pub mod Rows
 pub mod Settled
 pub mod Shown
 pub mod Taken

@@ -6,7 +6,7 @@ use Rattle.bounded_flow.specs.declared.edge.Edge.{Edge}
 use Rattle.bounded_flow.specs.declared.search.End.{End}
 use Rattle.bounded_flow.specs.declared.search.Adjacency.{Adjacency}
 use Rattle.bounded_flow.specs.declared.search.Search.{Search}
-use Rattle.bounded_flow.specs.Edges.{gap_of, enters, leaves, wire}
+use Rattle.bounded_flow.specs.Edges.{enters, leaves, wire}
 use Rattle.bounded_flow.specs.Searches.{IsAdjacency, Reached, IsLater, IsFollowed}
 
 -- the ends from this place on and before that one are of the node, and their edges are followed

@@ -1,5 +1,5 @@
 -- A push moves the debt from the node that it enters to the node that it leaves.
-use Rattle.std.proofs.Common.{◌≡◌, ℕ, ◌+◌, ◌-◌, ◌*◌, ◌<◌, ◌≤◌, ◌⊎◌, Bool, true, false, suc, zero, List, refl, arith, ap, sym, ◌∙◌, cond, eqb, length, get_or, map, subst, inl, inr}
+use Rattle.std.proofs.Common.{◌≡◌, ℕ, ◌+◌, ◌<◌, ◌⊎◌, Bool, true, false, suc, zero, List, refl, arith, ap, sym, ◌∙◌, cond, eqb, length, get_or, map, subst, inl, inr}
 use Rattle.std.proofs.Math.ListN.{set}
 use Rattle.std.proofs.Math.Seq.{map-set_same}
 use Rattle.std.proofs.lemmas.List.Sums.{sum_by-set}

@@ -1,13 +1,13 @@
 -- One repair: the way is always found, and the flow stays a flow.
-use Rattle.std.proofs.Common.{◌≡◌, ℕ, ◌+◌, ◌-◌, ◌*◌, ◌<◌, ◌≤◌, ◌⊎◌, Bool, true, false, ltb, List, length, map, get_or, refl, ap, sym, ◌∙◌, subst, inl, inr, arith, All}
+use Rattle.std.proofs.Common.{◌≡◌, ℕ, ◌*◌, ◌<◌, ◌≤◌, ◌⊎◌, Bool, true, false, ltb, List, length, map, get_or, ap, sym, ◌∙◌, subst, inl, inr, arith, All}
 use Rattle.std.proofs.Math.ListN.{set}
 use Rattle.std.proofs.lemmas.Bool.{cases_eq, cases_lt, lt-ltb, le-ltb, ltb-true}
-use Rattle.std.proofs.lemmas.List.{get_or-set_other, get_or-set_same, get_or_default, length-set}
+use Rattle.std.proofs.lemmas.List.{get_or-set_other, get_or_default}
 use Rattle.std.proofs.lemmas.List.Elements.{All-set}
 use Rattle.bounded_flow.specs.declared.edge.Edge.{Edge}
 use Rattle.bounded_flow.specs.declared.search.Search.{Search}
 use Rattle.bounded_flow.specs.Edges.{rest_of, gap_of, enters, leaves, wire, IsSound, Pushed}
-use Rattle.bounded_flow.specs.Flows.{Owes, IsFlow, IsWalk, IsRepair, IsInside}
+use Rattle.bounded_flow.specs.Flows.{Owes, IsFlow, IsWalk, IsRepair}
 use Rattle.bounded_flow.specs.Searches.{Reached, IsExplored}
 use Rattle.bounded_flow.proofs.Balances.{wires_many, inside_same, balanced_same, owes_nothing}
 use Rattle.bounded_flow.proofs.Cuts.{Closed, Comes, closed_cut}

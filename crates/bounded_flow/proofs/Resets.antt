@@ -1,5 +1,5 @@
 -- Edges whose whole units are taken off: they carry a flow as before.
-use Rattle.std.proofs.Common.{◌≡◌, ℕ, ◌+◌, ◌<◌, List, length, map, get_or, refl, sym, ap, ◌∙◌, subst, inl, inr, arith, All, Bool, true, false, cond, eqb, below_more}
+use Rattle.std.proofs.Common.{◌≡◌, ℕ, ◌+◌, ◌<◌, List, length, map, get_or, refl, sym, ap, ◌∙◌, arith, All, Bool, true, false, cond, eqb, below_more}
 use Rattle.std.specs.Prelude.{sum_by}
 use Rattle.std.proofs.Math.ListN.{set}
 use Rattle.std.proofs.Math.Seq.{map-set_same}
@@ -8,7 +8,7 @@ use Rattle.std.proofs.lemmas.List.Elements.{All-set, recursion_from_All}
 use Rattle.definitions.proofs.Sums.{sum_same_all, sum_zero}
 use Rattle.bounded_flow.specs.declared.edge.Edge.{Edge}
 use Rattle.bounded_flow.specs.Edges.{IsSound, rest_of, wire}
-use Rattle.bounded_flow.specs.Flows.{Balanced, IsFlow}
+use Rattle.bounded_flow.specs.Flows.{IsFlow}
 use Rattle.bounded_flow.proofs.Balances.{inside_same, balanced_same}
 
 -- the first so many edges are reset

@@ -1,6 +1,5 @@
 -- What a net shows once a weight is taken off.
-use Rattle.std.proofs.Common.{◌≡◌, ℕ, ◌+◌, ◌-◌, ◌*◌, ◌<◌, ◌≤◌, List, length, get_or, sym, ap, ◌∙◌, subst, arith, All}
-use Rattle.bounded_flow.specs.declared.edge.Edge.{Edge}
+use Rattle.std.proofs.Common.{◌≡◌, ℕ, ◌+◌, ◌-◌, ◌*◌, ◌<◌, ◌≤◌, length, get_or, sym, ap, ◌∙◌, subst, arith, All}
 use Rattle.bounded_flow.specs.declared.net.Net.TheInside.{Inside}
 use Rattle.bounded_flow.specs.Edges.{rest_of, gap_of}
 use Rattle.bounded_flow.specs.Nets.{NetValue, IsNet}

@@ -1,9 +1,9 @@
 -- A weight is taken off: every gap stays, and the flow stays a flow.
-use Rattle.std.proofs.Common.{◌≡◌, ℕ, zero, suc, ◌+◌, ◌-◌, ◌*◌, ◌<◌, ◌≤◌, ◌⊎◌, Bool, true, false, cond, eqb, List, length, get_or, refl, ap, sym, ◌∙◌, subst, inl, inr, arith, All}
+use Rattle.std.proofs.Common.{◌≡◌, ℕ, zero, suc, ◌+◌, ◌-◌, ◌*◌, ◌<◌, ◌≤◌, Bool, true, false, cond, eqb, List, get_or, ap, subst, inl, inr, arith, All}
 use Rattle.std.specs.Prelude.{sum_by}
 use Rattle.std.proofs.lemmas.Bool.{cases_lt}
 use Rattle.std.proofs.lemmas.List.Elements.{recursion_from_All}
-use Rattle.definitions.proofs.Sums.{sum_same_all, sum_of_sums, sum_scaled, sum_le_all}
+use Rattle.definitions.proofs.Sums.{sum_same_all, sum_of_sums, sum_scaled}
 use Rattle.bounded_flow.specs.declared.edge.Edge.{Edge}
 use Rattle.bounded_flow.specs.Edges.{rest_of, gap_of, IsSound}
 use Rattle.bounded_flow.specs.Flows.{Balanced, IsFlow}

@@ -1,5 +1,5 @@
 -- The way back along the ways that a search found.
-use Rattle.std.proofs.Common.{◌≡◌, ℕ, ◌+◌, ◌<◌, ◌≤◌, ◌⊎◌, List, length, map, get_or, refl, ap, sym, ◌∙◌, subst, inl, inr, arith, All}
+use Rattle.std.proofs.Common.{◌≡◌, ℕ, ◌<◌, ◌≤◌, ◌⊎◌, List, length, map, get_or, ap, sym, ◌∙◌, subst, inl, inr, arith, All}
 use Rattle.std.proofs.Math.ListN.{set}
 use Rattle.std.proofs.lemmas.Bool.{cases_eq}
 use Rattle.std.proofs.lemmas.List.{get_or-set_other, get_or-set_same, get_or_default, length-set}
@@ -7,8 +7,8 @@ use Rattle.std.proofs.lemmas.List.Elements.{All-set}
 use Rattle.bounded_flow.specs.declared.edge.Edge.{Edge}
 use Rattle.bounded_flow.specs.declared.search.Search.{Search}
 use Rattle.bounded_flow.specs.Edges.{rest_of, gap_of, enters, leaves, wire, IsSound, Pushed}
-use Rattle.bounded_flow.specs.Flows.{Owes, IsWalk}
-use Rattle.bounded_flow.specs.Searches.{Reached, IsWay}
+use Rattle.bounded_flow.specs.Flows.{Owes}
+use Rattle.bounded_flow.specs.Searches.{Reached}
 use Rattle.bounded_flow.proofs.Pushes.{owes_push, wires_push, rests_push}
 
 -- walked back to this node: the debt is there, the edges that enter it or a node with an earlier place are as they were, and every

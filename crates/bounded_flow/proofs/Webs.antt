@@ -1,11 +1,10 @@
 -- What a net's fields show of each cell and set.
-use Rattle.std.proofs.Common.{◌≡◌, ℕ, ◌+◌, ◌-◌, ◌*◌, ◌<◌, ◌≤◌, ◌⊎◌, ◌^◌, List, [], length, map, take, get_or, Some, refl, ap, sym, ◌∙◌, subst, inl, inr, arith, All}
-use Rattle.std.specs.Prelude.{sum, sum_by, slice_get, slice_index}
+use Rattle.std.proofs.Common.{◌≡◌, ℕ, ◌+◌, ◌-◌, ◌*◌, ◌<◌, ◌≤◌, ◌^◌, List, [], length, map, take, get_or, refl, ap, sym, ◌∙◌, subst, inl, inr, arith, All}
 use Rattle.std.proofs.lemmas.Bool.{cases_lt}
-use Rattle.std.proofs.lemmas.List.{get_or-map, get_or-take, get_or_default, length-map, length-take-le, take-map}
+use Rattle.std.proofs.lemmas.List.{get_or-map, get_or-take, length-map, length-take-le}
 use Rattle.std.proofs.lemmas.List.Elements.{All-map, All-take, All-weaker, All-from_get_or}
 use Rattle.std.proofs.lemmas.List.Sums.{sum-map}
-use Rattle.std.proofs.lemmas.Option.{slice_get-get_or, slice_get_within, get_or_from_slice_get}
+use Rattle.std.proofs.lemmas.Option.{slice_get-get_or}
 use Rattle.definitions.specs.declared.Cell.{Cell}
 use Rattle.definitions.specs.Sets.{set_sum, unit_at}
 use Rattle.definitions.specs.Rounding.{SideSet, Rounds, IsRounded, Allows, gap}
@@ -15,12 +14,10 @@ use Rattle.rounding_laws.proofs.Allowed.{allows_of_gap, gap_of_allows}
 use Rattle.bounded_flow.specs.declared.edge.Edge.{Edge}
 use Rattle.bounded_flow.specs.declared.search.Adjacency.{Adjacency}
 use Rattle.bounded_flow.specs.declared.search.Search.{Search}
-use Rattle.bounded_flow.specs.Edges.{rest_of, gap_of, wire, IsSound}
-use Rattle.bounded_flow.specs.Flows.{Balanced, IsFlow, IsRepair}
+use Rattle.bounded_flow.specs.Edges.{rest_of, gap_of, IsSound}
+use Rattle.bounded_flow.specs.Flows.{Balanced}
 use Rattle.bounded_flow.specs.Nets.{IsNet, set_cells_of}
-use Rattle.bounded_flow.specs.Searches.{HasRoom}
 use Rattle.bounded_flow.specs.Webs.{IsWeb, node_count}
-use Rattle.bounded_flow.proofs.Balances.{wires_many}
 
 -- a number of the edges of the cells, row by row
 abbrev pub cell_values : (Edge → ℕ) → ℕ → List Edge → List ℕ

@@ -1,5 +1,5 @@
 -- Edges: the signed gap that an edge keeps between its share and its whole units, and what a push does.
-use Rattle.std.specs.Prelude.{◌≡◌, ℕ, ◌+◌, ◌-◌, ◌*◌, ◌<◌, ◌≤◌, ◌⊎◌, nat_lt, if◌then◌else◌, Option, Some, None}
+use Rattle.std.specs.Prelude.{◌≡◌, ℕ, ◌+◌, ◌-◌, ◌*◌, ◌<◌, ◌≤◌, ◌⊎◌, nat_lt, if◌then◌else◌}
 use Rattle.bounded_flow.specs.declared.edge.Edge.{Edge}
 
 -- the remainder of an edge, over the weight left

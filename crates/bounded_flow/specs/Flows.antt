@@ -1,5 +1,5 @@
 -- Flows: numbers on edges that are in balance at each node, and what repairs keep.
-use Rattle.std.specs.Prelude.{◌≡◌, ℕ, ◌+◌, ◌*◌, ◌<◌, ◌≤◌, ◌⊎◌, ◌==◌, List, length, map, take, All, Some, sum_by, slice_get, slice_index_or, if◌then◌else◌}
+use Rattle.std.specs.Prelude.{◌≡◌, ℕ, ◌+◌, ◌<◌, ◌⊎◌, ◌==◌, List, length, map, take, All, Some, sum_by, slice_get, slice_index_or, if◌then◌else◌}
 use Rattle.definitions.specs.declared.Cell.{Cell}
 use Rattle.definitions.specs.Sets.{set_sum, unit_at}
 use Rattle.bounded_flow.specs.declared.edge.Edge.{Edge}

@@ -1,6 +1,5 @@
 -- What a net keeps of its fields.
 use Rattle.std.specs.Prelude.{◌≡◌, ℕ, ◌+◌, ◌*◌, ◌≤◌, ◌^◌, ◌⊎◌, List, length, map, take, All, sum_by}
-use Rattle.definitions.specs.declared.Cell.{Cell}
 use Rattle.definitions.specs.Sets.{IsCellWithin, NoCrossing}
 use Rattle.definitions.specs.Rounding.{SideSet}
 use Rattle.bounded_flow.specs.declared.edge.Edge.{Edge}

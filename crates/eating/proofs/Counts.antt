@@ -11,10 +11,10 @@ use Rattle.std.proofs.lemmas.List.FromFn.{length-range_with_len}
 use Rattle.definitions.specs.Sets.{SetValue}
 use Rattle.definitions.specs.Values.{Limit, Agent, Market, ProblemValue, IsProblem, IsListUpTo, but_last, capped_limits, market_agents, market_of, limits_of, stated_sets, list_at, demand_at}
 use Rattle.definitions.proofs.Members.{number_test, member_at, member_place}
-use Rattle.eating_laws.proofs.Limits.{agent_of, agent_count, list_lawful}
+use Rattle.definitions.proofs.Problems.{agent_of, list_lawful}
+use Rattle.eating_laws.proofs.Limits.{agent_count}
 use Rattle.side_laws.proofs.Members.{sum_within}
-use Rattle.side_laws.proofs.Chains.{member_of_range}
-use Rattle.side_laws.proofs.Cells.{distinct_range}
+use Rattle.definitions.proofs.Ranges.{member_of_range, distinct_range}
 use Rattle.eating.specs.Caps.{capped_count, caps_before}
 
 ones : (xs : List ℕ) → sum_by (λ (x : ℕ). 1) xs ≡ length xs

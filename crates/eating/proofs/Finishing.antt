@@ -18,7 +18,8 @@ use Rattle.definitions.proofs.Members.{number_test, member_at}
 use Rattle.definitions.proofs.Sums.{unit_at_within, sum_of_units}
 use Rattle.eating_laws.specs.Shares.{IsMatrixFor}
 use Rattle.eating_laws.proofs.Full.{cells_at, full_le}
-use Rattle.eating_laws.proofs.Limits.{agent_of, agent_count, list_lawful, demand_total}
+use Rattle.definitions.proofs.Problems.{agent_of, list_lawful}
+use Rattle.eating_laws.proofs.Limits.{agent_count, demand_total}
 use Rattle.eating_laws.proofs.Assignment.{eating_assigns}
 use Rattle.eating.specs.Caps.{capped_count, caps_before}
 use Rattle.eating.specs.Plan.{LineValue, IsSmall, AreLinesOf}

@@ -15,7 +15,8 @@ use Rattle.definitions.specs.Hierarchies.{TreesValue, AreTreesOf}
 use Rattle.definitions.specs.Values.{Limit, Agent, Market, ProblemValue, IsProblem, market_of, limits_of, list_at, demand_at}
 use Rattle.definitions.specs.Eating.{slot_cells, demand_sum}
 use Rattle.eating_laws.proofs.Holders.{IsHolders}
-use Rattle.eating_laws.proofs.Limits.{agent_of, agent_count, list_lawful, none_free, demand_total}
+use Rattle.definitions.proofs.Problems.{agent_of, list_lawful}
+use Rattle.eating_laws.proofs.Limits.{agent_count, none_free, demand_total}
 use Rattle.eating_laws.proofs.Full.{cells_at}
 use Rattle.eating.specs.Caps.{capped_count, caps_before}
 use Rattle.eating.specs.Holders.{holders_in, made_holders}

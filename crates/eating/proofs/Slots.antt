@@ -15,12 +15,11 @@ use Rattle.definitions.specs.Hierarchies.{TreesValue, AreTreesOf, chain_of, deep
 use Rattle.definitions.specs.Values.{Limit, Agent, ProblemValue, IsProblem, column_count, capped_limits, market_of, market_agents, limits_of, stated_sets, list_at, demand_at}
 use Rattle.definitions.specs.Eating.{slot_cells}
 use Rattle.definitions.proofs.Members.{number_test, member_at, member_place}
-use Rattle.definitions.proofs.Families.{sets_of_problem}
+use Rattle.definitions.proofs.Families.{sets_of_problem, no_set, cells_of_set}
 use Rattle.definitions.proofs.Sums.{single}
 use Rattle.eating_laws.proofs.Full.{cells_at}
 use Rattle.eating_laws.proofs.Holders.{IsHolders}
-use Rattle.eating_laws.proofs.Limits.{agent_of, list_lawful}
-use Rattle.side_laws.proofs.Order.{cells_of_set}
+use Rattle.definitions.proofs.Problems.{agent_of, list_lawful}
 use Rattle.side_laws.proofs.Trees.{chain_holds, cell_chain_distinct}
 use Rattle.side_laws.proofs.ChainSums.{passes}
 use Rattle.side_laws.proofs.Rows.{stated_side, two_is_stated}
@@ -50,9 +49,6 @@ cells_before : (xs ys : List Limit) (x : ℕ) → x < length xs → cells_at (xs
 cells_before [] ys x l = absurd (omega arith)
 cells_before (s ∷ xs) ys zero l = refl
 cells_before (s ∷ xs) ys (suc x) l = cells_before xs ys x (omega arith)
-
-abbrev no_set : SetValue
-no_set = record { side = 1; floor = 0; ceiling = 0; cells = [] }
 
 stated_cells : (sets : List SetValue) (j : ℕ) → j < length sets → cells_at (map (λ s. record { ceiling = s.ceiling; cells = s.cells }) sets) j ≡ (get_or sets j no_set).cells
 stated_cells [] j l = absurd (omega arith)

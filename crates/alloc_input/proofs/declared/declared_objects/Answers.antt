@@ -1,5 +1,5 @@
-use Rattle.std.proofs.Common.{◌≡◌, ◌∙◌, ◌<◌, [], sym, ap, arith, length, take, get_or}
-use Rattle.std.proofs.lemmas.List.{take_all, take_more}
+use Rattle.std.proofs.Common.{◌∙◌, ◌<◌, [], sym, ap, arith, length, take, get_or}
+use Rattle.std.proofs.lemmas.List.{take_more}
 use Rattle.alloc_input.specs.Objects.{declared}
 use Rattle.alloc_input.proofs.OnceEach.{declared-push}
 use Rattle.alloc_input.proofs.declared.declared_objects.Goals as goal

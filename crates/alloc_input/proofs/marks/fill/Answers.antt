@@ -1,4 +1,4 @@
-use Rattle.std.proofs.Common.{◌≡◌, ◌∙◌, ◌<◌, ◌++◌, ◌∷◌, [], sym, refl, arith, length, rules, true, length-append, List, ℕ}
+use Rattle.std.proofs.Common.{◌≡◌, ◌∙◌, ◌<◌, ◌++◌, ◌∷◌, [], refl, arith, length, rules, true, length-append, List, ℕ}
 use Rattle.std.specs.Result.{is_ok}
 use Rattle.alloc_input.proofs.MarkFacts.{cells-after, rows-after}
 use Rattle.alloc_input.proofs.marks.fill.Goals as goal

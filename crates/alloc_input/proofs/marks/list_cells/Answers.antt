@@ -1,4 +1,4 @@
-use Rattle.std.proofs.Common.{◌≡◌, ◌∙◌, sym, refl, arith}
+use Rattle.std.proofs.Common.{◌∙◌, sym}
 use Rattle.alloc_input.proofs.NumberFacts.{on_ok}
 use Rattle.alloc_input.proofs.MarkFacts.{cells-none, cells-more}
 use Rattle.alloc_input.proofs.marks.list_cells.Goals as goal

@@ -1,6 +1,4 @@
-use Rattle.std.proofs.Common.{◌≡◌, ◌*◌, ◌∙◌, sym, refl, arith, length, ap}
-use Rattle.alloc_input.specs.Cells.{with_rectangle}
-use Rattle.alloc_input.specs.Checks.{need}
+use Rattle.std.proofs.Common.{◌≡◌, ◌*◌, ◌∙◌, sym, refl, arith}
 use Rattle.alloc_input.proofs.NumberFacts.{on_ok}
 use Rattle.alloc_input.proofs.MarkFacts.{rectangle-all, marked_along}
 use Rattle.alloc_input.proofs.marks.mark.Goals as goal

@@ -1,4 +1,4 @@
-use Rattle.std.proofs.Common.{◌≡◌, ◌<◌, ◌+◌, sym, refl, arith, length, []}
+use Rattle.std.proofs.Common.{◌<◌, sym, refl, arith, length, []}
 use Rattle.std.proofs.lemmas.List.{get_or_read}
 use Rattle.alloc_input.proofs.CellFacts.{row_grown, rows_grown, rectangle-past}
 use Rattle.alloc_input.proofs.marks.mark_agent.Goals as goal

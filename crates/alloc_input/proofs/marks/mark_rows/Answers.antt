@@ -1,5 +1,4 @@
-use Rattle.std.proofs.Common.{◌≡◌, ◌<◌, ◌≤◌, ◌∙◌, sym, refl, arith, length, get_or}
-use Rattle.alloc_input.specs.Marked.{marked_cells}
+use Rattle.std.proofs.Common.{◌<◌, ◌≤◌, ◌∙◌, sym, refl, arith, length}
 use Rattle.alloc_input.proofs.NumberFacts.{on_ok}
 use Rattle.alloc_input.proofs.CellFacts.{count_is}
 use Rattle.alloc_input.proofs.MarkFacts.{rectangle-start, rectangle-next, rectangle-over, rectangle-end}

@@ -1,13 +1,12 @@
-use Rattle.std.proofs.Common.{◌≡◌, ◌∙◌, ◌*◌, ◌<◌, ◌≤◌, sym, refl, subst, arith, length, [], take}
-use Rattle.std.specs.List.{AllZip}
+use Rattle.std.proofs.Common.{◌∙◌, ◌*◌, ◌<◌, ◌≤◌, sym, refl, subst, arith, length, [], take}
 use Rattle.std.proofs.lemmas.List.{take_all, take_more}
 use Rattle.std.proofs.lemmas.List.Elements.{All-nil}
 use Rattle.frac128.specs.declared.fractions.Fraction.{Fraction}
 use Rattle.frac128.specs.Fraction.{numerator, denominator}
 use Rattle.definitions.specs.Values.{SharesValue}
 use Rattle.definitions.proofs.FirstFaults.{fault-next, fault-here, fault-end, number-here}
-use Rattle.alloc_input.specs.Matrices.{IsMatrix, ReadsAsMatrix, all_shares, check_matrix}
-use Rattle.alloc_input.specs.Prefs.{check_end, filled_rows}
+use Rattle.alloc_input.specs.Matrices.{IsMatrix, ReadsAsMatrix, check_matrix}
+use Rattle.alloc_input.specs.Prefs.{check_end}
 use Rattle.alloc_input.proofs.LawfulMatrices.{matrix-is-lawful}
 use Rattle.alloc_input.proofs.MatrixRecords.{length-entries, nothing-stated}
 use Rattle.alloc_input.proofs.Stops.{refused-here}

@@ -1,4 +1,4 @@
-use Rattle.std.proofs.Common.{◌≡◌, ◌∙◌, sym, refl, true}
+use Rattle.std.proofs.Common.{◌∙◌, sym, refl, true}
 use Rattle.alloc_input.proofs.MatrixRecords.{matrix-blank, header-check, after-header-row, shares-check, after-shares}
 use Rattle.alloc_input.proofs.Stops.{checks_along, stops_along}
 use Rattle.alloc_input.proofs.matrix.take_record.Goals as goal

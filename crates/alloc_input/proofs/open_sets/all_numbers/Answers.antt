@@ -1,4 +1,4 @@
-use Rattle.std.proofs.Common.{◌≡◌, ◌∙◌, sym, rules, true, arith, ◌≤◌}
+use Rattle.std.proofs.Common.{◌≡◌, ◌∙◌, sym, rules, true, arith}
 use Rattle.std.specs.Result.{is_ok}
 use Rattle.alloc_input.proofs.Ranges.{range_more}
 use Rattle.alloc_input.proofs.open_sets.all_numbers.Goals as goal

@@ -1,4 +1,4 @@
-use Rattle.std.proofs.Common.{◌≡◌, ◌∙◌, ◌<◌, ◌≤◌, sym, arith, length}
+use Rattle.std.proofs.Common.{◌∙◌, ◌<◌, ◌≤◌, sym, arith, length}
 use Rattle.alloc_input.proofs.GrowFacts.{part_le, grown-past, grown-limits, grown-values, grown-counted}
 use Rattle.alloc_input.proofs.Stops.{stops_along}
 use Rattle.alloc_input.proofs.open_sets.grow.Goals as goal

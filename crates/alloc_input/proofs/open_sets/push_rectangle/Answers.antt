@@ -1,4 +1,4 @@
-use Rattle.std.proofs.Common.{◌≡◌, ◌∙◌, ◌<◌, ◌≤◌, ◌+◌, sym, arith, length, ap, rules, true, refl}
+use Rattle.std.proofs.Common.{◌≡◌, ◌∙◌, ◌<◌, ◌+◌, sym, arith, length, ap, rules, true}
 use Rattle.std.specs.Result.{is_ok}
 use Rattle.alloc_input.proofs.GrowFacts.{limits-many, marks_count, pushed-limits, pushed-values, push-counted}
 use Rattle.alloc_input.proofs.Stops.{stops_along}

@@ -1,4 +1,4 @@
-use Rattle.std.proofs.Common.{◌≡◌, ◌∙◌, ◌<◌, ◌≤◌, sym, refl, rules, true, arith, drop, length, get_or, [], take}
+use Rattle.std.proofs.Common.{◌≡◌, ◌∙◌, ◌<◌, ◌≤◌, refl, rules, true, arith, drop, length, get_or, [], take}
 use Rattle.std.proofs.lemmas.List.{length-drop, take_all, take_more}
 use Rattle.std.specs.Result.{is_ok}
 use Rattle.alloc_input.specs.Prefs.{columns_of, check_choices, check_choice}

@@ -1,4 +1,4 @@
-use Rattle.std.proofs.Common.{◌≡◌, ◌∙◌, ◌<◌, ◌≤◌, ◌+◌, ◌≢◌, sym, refl, arith, length, [], take}
+use Rattle.std.proofs.Common.{◌≡◌, ◌∙◌, ◌<◌, ◌≤◌, refl, arith, length, [], take}
 use Rattle.std.proofs.lemmas.List.{take_all, take_more}
 use Rattle.definitions.proofs.FirstFaults.{fault-next, fault-here, fault-end, number-here}
 use Rattle.alloc_input.specs.Prefs.{filled_rows, check_record, check_end}

@@ -1,4 +1,4 @@
-use Rattle.std.proofs.Common.{◌≡◌, ◌∙◌, ◌<◌, sym, ap, refl, rules, true, false, arith, length, get_or, eqb}
+use Rattle.std.proofs.Common.{◌≡◌, ◌∙◌, refl, rules, true, arith}
 use Rattle.std.specs.Result.{is_ok}
 use Rattle.alloc_input.proofs.Choices.{take-blank, take-null, take-column, unknown-choice, repeated-choice, known-column}
 use Rattle.alloc_input.proofs.Stamps.{stamps-set, list-set}

@@ -1,5 +1,4 @@
-use Rattle.std.proofs.Common.{◌≡◌, ◌∙◌, sym, refl}
-use Rattle.alloc_input.specs.Prefs.{check_record}
+use Rattle.std.proofs.Common.{refl}
 use Rattle.alloc_input.proofs.AfterRecords.{after-blank, after-header, after-agent, agent-check}
 use Rattle.alloc_input.proofs.Stops.{checks_along}
 use Rattle.alloc_input.proofs.prefs.take_record.Goals as goal

@@ -1,9 +1,8 @@
-use Rattle.std.proofs.Common.{◌≡◌, ◌∙◌, ◌<◌, ◌≤◌, ◌+◌, sym, refl, ap, arith, length, get_or, [], take, None, Some, List, ℕ}
+use Rattle.std.proofs.Common.{◌∙◌, ◌<◌, ◌≤◌, refl, ap, arith, length, [], None}
 use Rattle.std.proofs.lemmas.List.{take_all}
 use Rattle.definitions.proofs.FirstFaults.{fault-next, fault-here, fault-end, number-here}
 use Rattle.alloc_input.specs.Stated.{setting_of, stated_from, nothing_of}
 use Rattle.alloc_input.specs.Quotas.{check_record}
-use Rattle.alloc_input.specs.Reading.{held}
 use Rattle.alloc_input.proofs.Reading.{stated_next}
 use Rattle.alloc_input.proofs.Stops.{refused-here}
 use Rattle.alloc_input.proofs.quota_reading.read_quota_records.Goals as goal

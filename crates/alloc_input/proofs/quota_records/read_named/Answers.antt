@@ -1,5 +1,4 @@
-use Rattle.std.proofs.Common.{◌≡◌, ◌∙◌, ◌<◌, ◌≤◌, sym, refl, arith, drop, length, get_or, [], take, List, ℕ}
-use Rattle.std.specs.List.{filter_map}
+use Rattle.std.proofs.Common.{◌≡◌, ◌∙◌, ◌<◌, ◌≤◌, refl, arith, drop, length, get_or, []}
 use Rattle.std.proofs.lemmas.List.{length-drop, take_all}
 use Rattle.alloc_input.specs.Stated.{member_of}
 use Rattle.alloc_input.specs.Quotas.{check_member, check_members}

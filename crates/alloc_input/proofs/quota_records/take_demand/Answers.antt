@@ -1,7 +1,6 @@
-use Rattle.std.proofs.Common.{◌≡◌, ◌∙◌, refl, sym, []}
+use Rattle.std.proofs.Common.{◌∙◌, refl, sym, []}
 use Rattle.alloc_input.specs.Quotas.{check_demand}
 use Rattle.alloc_input.specs.Stated.{setting_of}
-use Rattle.alloc_input.specs.Cells.{numbers_to}
 use Rattle.alloc_input.specs.Reading.{held}
 use Rattle.alloc_input.proofs.Steps.{then_checks, demand_limits, demand_stated, added}
 use Rattle.alloc_input.proofs.quota_records.take_demand.Goals as goal

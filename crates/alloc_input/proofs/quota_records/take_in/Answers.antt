@@ -1,7 +1,6 @@
-use Rattle.std.proofs.Common.{◌≡◌, ◌∙◌, ◌++◌, ◌∷◌, [], ℕ, List, Some, length, refl, sym, ap}
+use Rattle.std.proofs.Common.{◌∙◌, [], Some, sym, ap}
 use Rattle.alloc_input.specs.Quotas.{check_in}
 use Rattle.alloc_input.specs.Stated.{setting_of}
-use Rattle.alloc_input.specs.Cells.{numbers_to}
 use Rattle.alloc_input.specs.Reading.{held}
 use Rattle.alloc_input.proofs.Steps.{then_checks, in_limits, in_stated}
 use Rattle.alloc_input.proofs.quota_records.take_in.Goals as goal

@@ -1,4 +1,4 @@
-use Rattle.std.proofs.Common.{◌≡◌, ◌∙◌, ◌++◌, ◌∷◌, [], ℕ, List, length, refl, sym, ap}
+use Rattle.std.proofs.Common.{◌∙◌, [], refl, sym, ap}
 use Rattle.alloc_input.specs.Quotas.{check_object}
 use Rattle.alloc_input.specs.Stated.{setting_of}
 use Rattle.alloc_input.specs.Cells.{numbers_to}

@@ -1,4 +1,4 @@
-use Rattle.std.proofs.Common.{◌≡◌, ◌∙◌, ◌++◌, ◌∷◌, [], ℕ, List, length, refl, sym, ap, rules, true}
+use Rattle.std.proofs.Common.{◌≡◌, ◌∙◌, ◌++◌, ◌∷◌, [], refl, sym, ap, rules, true}
 use Rattle.std.specs.Result.{is_ok}
 use Rattle.alloc_input.specs.Stated.{setting_of}
 use Rattle.alloc_input.specs.Quotas.{check_set}

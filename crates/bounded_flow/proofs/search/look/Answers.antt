@@ -1,4 +1,4 @@
-use Rattle.std.proofs.Common.{◌≡◌, ℕ, List, length, get_or, inl, inr, subst, ap, sym}
+use Rattle.std.proofs.Common.{ℕ, List, length, get_or, inl, inr, subst}
 use Rattle.bounded_flow.specs.declared.search.End.{End}
 use Rattle.bounded_flow.specs.Searches.{Reached}
 use Rattle.bounded_flow.proofs.Looking.{Looked, Stops, looked_more, looked_all}

@@ -1,4 +1,4 @@
-use Rattle.std.proofs.Common.{◌≡◌, ℕ, ◌<◌, List, length, get_or, arith, rules, subst, inl, inr}
+use Rattle.std.proofs.Common.{ℕ, ◌<◌, length, get_or, rules, subst}
 use Rattle.std.proofs.lemmas.List.{get_or_default}
 use Rattle.bounded_flow.specs.declared.edge.Edge.{Edge}
 use Rattle.bounded_flow.specs.Edges.{Leads}

@@ -1,4 +1,3 @@
-use Rattle.std.proofs.Common.{◌≡◌, sym}
 use Rattle.alloc_input.proofs.CellFacts.{no_rows, no_cells}
 use Rattle.alloc_input.proofs.marks.Marks.new.Goals as goal
 

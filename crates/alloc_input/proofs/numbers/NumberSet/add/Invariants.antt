@@ -1,4 +1,4 @@
-use Rattle.std.proofs.Common.{◌≡◌, take}
+use Rattle.std.proofs.Common.{take}
 use Rattle.alloc_input.specs.Numbers.{AddsNumbers}
 use Rattle.alloc_input.proofs.numbers.NumberSet.add.Given as goal
 

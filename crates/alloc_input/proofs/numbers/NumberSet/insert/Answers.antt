@@ -1,4 +1,4 @@
-use Rattle.std.proofs.Common.{◌≡◌, ◌∙◌, ◌||◌, ◌==◌, sym, ap, false}
+use Rattle.std.proofs.Common.{◌∙◌, ◌||◌, ◌==◌, sym, ap}
 use Rattle.alloc_input.specs.Cells.{has_number}
 use Rattle.alloc_input.proofs.NumberFacts.{among-insert, has-insert, on_ok}
 use Rattle.alloc_input.proofs.numbers.NumberSet.insert.Goals as goal

@@ -1,16 +1,16 @@
 -- Between two moments at which limits are full each limit is eaten at its speed.
-use Rattle.std.proofs.Common.{◌≡◌, ◌≢◌, ℕ, suc, zero, ◌+◌, ◌-◌, ◌*◌, ◌<◌, ◌≤◌, List, length, map, refl, ap, sym, ◌∙◌, subst, inl, inr, arith, mul-le-mul_left}
-use Rattle.std.specs.Prelude.{min, ◌⊎◌, slice_index}
+use Rattle.std.proofs.Common.{◌≡◌, ℕ, suc, zero, ◌+◌, ◌-◌, ◌*◌, ◌<◌, ◌≤◌, List, length, map, ap, sym, ◌∙◌, subst, inl, inr, arith}
+use Rattle.std.specs.Prelude.{min, ◌⊎◌}
 use Rattle.std.proofs.Math.Nat.{mul-lt-mul_of_pos_left, mul_left_comm, mul-add, eq_of_mul-eq-mul_left}
-use Rattle.std.proofs.lemmas.Bool.{cases_lt, cases_order}
+use Rattle.std.proofs.lemmas.Bool.{cases_lt}
 use Rattle.std.proofs.lemmas.List.{get_or_past, length-map}
 use Rattle.definitions.specs.Values.{Market}
 use Rattle.definitions.specs.Eating.{eaten_by, moment_at, slot_cells, slot_ceiling, IsEatingTable}
 use Rattle.eating_laws.proofs.Full.{moments_scaled}
-use Rattle.eating_laws.proofs.Sums.{speed_of, speed_scale, eaten_cut, eaten_rate, eaten_scale}
+use Rattle.eating_laws.proofs.Sums.{speed_scale, eaten_cut, eaten_rate, eaten_scale}
 use Rattle.eating_laws.proofs.Right.{IsRightAt, IsRightBelow, right_eating}
 use Rattle.eating_laws.proofs.Fine.{scale_right}
-use Rattle.eating.specs.Steps.{IsReady, IsAdvanced, AreAdvanced}
+use Rattle.eating.specs.Steps.{IsReady}
 
 -- what goes on more slowly than allowed until n has something left before n
 slower : (v a b r : ℕ) → a < b → v * b ≤ r → 0 < r → v * a < r

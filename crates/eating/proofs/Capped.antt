@@ -1,13 +1,11 @@
 -- The limits of the capped cells: which of them hold a cell.
-use Rattle.std.proofs.Common.{◌≡◌, ◌≢◌, ℕ, suc, zero, ◌+◌, ◌-◌, ◌<◌, ◌≤◌, ◌++◌, List, [], ◌∷◌, Bool, true, false, cond, Option, Some, length, map, take, get_or, refl, ap, sym, ◌∙◌, subst, arith, inl, inr}
-use Rattle.std.specs.Prelude.{nat_eq, nat_le, slice_get, slice_index, ◌==◌, ◌&&◌}
-use Rattle.std.specs.Option.{option_map_or}
+use Rattle.std.proofs.Common.{◌≡◌, ℕ, suc, zero, ◌+◌, ◌-◌, ◌<◌, ◌≤◌, ◌++◌, List, [], ◌∷◌, Bool, true, false, cond, Some, length, map, take, get_or, refl, ap, sym, ◌∙◌, subst, arith, inl, inr}
+use Rattle.std.specs.Prelude.{nat_eq, nat_le, slice_get, ◌==◌}
 use Rattle.std.specs.List.{IsDistinct}
 use Rattle.std.specs.Set.{is_member}
-use Rattle.std.proofs.lemmas.Bool.{cases_lt, both_ways, and_parts, and_from, or_cases, or_left, eqb-true, eq-eqb, leb-true, cases_Bool}
+use Rattle.std.proofs.lemmas.Bool.{cases_lt, both_ways, and_parts, and_from, or_cases, or_left, eqb-true, eq-eqb}
 use Rattle.std.proofs.lemmas.List.{length-map}
 use Rattle.std.proofs.lemmas.List.Sums.{sum_by-cons}
-use Rattle.definitions.specs.declared.Cell.{Cell}
 use Rattle.definitions.specs.Sets.{cell_of, same_cell, holds}
 use Rattle.definitions.specs.Values.{Limit, Agent, but_last, capped_limits}
 use Rattle.definitions.proofs.Members.{number_test, distinct_first, distinct_rest, member_at}
@@ -24,7 +22,8 @@ one_place (a ∷ list) d (suc i) zero l m e =
     absurd (both_ways (is_member nat_eq list a) (distinct_first nat_eq a list d) (subst (λ x. is_member nat_eq list x ≡ true) e (member_at nat_eq number_test list i 0 (omega arith))))
 one_place (a ∷ list) d (suc i) (suc j) l m e = ap suc (one_place list (distinct_rest nat_eq a list d) i j (omega arith) (omega arith) e)
 
-cells_left : (xs ys : List Limit) (x : ℕ) → x < length xs → cells_at (xs ++ ys) x ≡ cells_at xs x
+-- a slot of two lists of limits, in the first and in the second
+pub cells_left : (xs ys : List Limit) (x : ℕ) → x < length xs → cells_at (xs ++ ys) x ≡ cells_at xs x
 cells_left [] ys x l = absurd (omega arith)
 cells_left (s ∷ xs) ys zero l = refl
 cells_left (s ∷ xs) ys (suc x) l = cells_left xs ys x (omega arith)
@@ -37,7 +36,8 @@ cells_right (s ∷ xs) ys (suc x) y e = cells_right xs ys x y (omega arith)
 abbrev head_of : ℕ → Agent → List Limit
 head_of i w = cond (nat_le 2 w.demand) (map (λ a. record { ceiling = 1; cells = cell_of i a ∷ [] }) (but_last w.list)) []
 
-before_last_length : (list : List ℕ) → length (but_last list) ≡ length list - 1
+-- a list without its last column
+pub before_last_length : (list : List ℕ) → length (but_last list) ≡ length list - 1
 before_last_length [] = refl
 before_last_length (a ∷ []) = refl
 before_last_length (a ∷ b ∷ list) = omega (arith, before_last_length (b ∷ list))

@@ -1,21 +1,21 @@
 -- How many cells are capped.
-use Rattle.std.proofs.Common.{◌≡◌, ℕ, suc, zero, ◌+◌, ◌-◌, ◌*◌, ◌<◌, ◌≤◌, ◌++◌, List, [], ◌∷◌, Bool, true, false, cond, Option, Some, length, map, take, get_or, replicate, refl, ap, sym, ◌∙◌, subst, arith, inl, inr}
-use Rattle.std.specs.Prelude.{sum_by, count_by, All, nat_eq, nat_le, slice_get, slice_index}
-use Rattle.std.specs.List.{IsDistinct, range_with_len, AllByRecursion}
+use Rattle.std.proofs.Common.{◌≡◌, ℕ, suc, zero, ◌+◌, ◌-◌, ◌*◌, ◌<◌, ◌≤◌, ◌++◌, List, [], ◌∷◌, Bool, true, false, cond, Some, length, map, take, get_or, replicate, refl, ap, sym, ◌∙◌, arith}
+use Rattle.std.specs.Prelude.{sum_by, nat_eq, nat_le, slice_get}
+use Rattle.std.specs.List.{range_with_len}
 use Rattle.std.specs.Set.{is_member}
 use Rattle.std.proofs.lemmas.Option.{get_or_from_slice_get, slice_get_within}
 use Rattle.std.proofs.lemmas.List.{replicate-append-replicate, map-append, length-map, take_more, take_all, length-append, length-take}
-use Rattle.std.proofs.lemmas.List.Elements.{recursion_from_All}
 use Rattle.std.proofs.lemmas.List.Sums.{sum_by-cons, sum_by_more, sum_by-take-le, count_by-le-length}
 use Rattle.std.proofs.lemmas.List.FromFn.{length-range_with_len}
 use Rattle.definitions.specs.Sets.{SetValue}
-use Rattle.definitions.specs.Values.{Limit, Agent, Market, ProblemValue, IsProblem, IsListUpTo, but_last, capped_limits, market_agents, market_of, limits_of, stated_sets, list_at, demand_at}
-use Rattle.definitions.proofs.Members.{number_test, member_at, member_place}
+use Rattle.definitions.specs.Values.{Limit, Agent, ProblemValue, IsProblem, IsListUpTo, but_last, capped_limits, market_of, limits_of, stated_sets, list_at, demand_at}
+use Rattle.definitions.proofs.Members.{number_test, member_place}
 use Rattle.definitions.proofs.Problems.{agent_of, list_lawful}
 use Rattle.eating_laws.proofs.Limits.{agent_count}
 use Rattle.side_laws.proofs.Members.{sum_within}
 use Rattle.definitions.proofs.Ranges.{member_of_range, distinct_range}
 use Rattle.eating.specs.Caps.{capped_count, caps_before}
+use Rattle.eating.proofs.Capped.{before_last_length}
 
 ones : (xs : List ℕ) → sum_by (λ (x : ℕ). 1) xs ≡ length xs
 ones [] = refl
@@ -68,18 +68,13 @@ caps_within p h (suc i) l =
 pub caps_few : (p : ProblemValue) → IsProblem p → (i : ℕ) → i ≤ length p.agents → caps_before (take i (market_of p).agents) ≤ 200000
 caps_few p h i l = omega (arith, caps_within p h i l, h.agents_limit)
 
-before_last : (list : List ℕ) → length (but_last list) ≡ length list - 1
-before_last [] = refl
-before_last (a ∷ []) = refl
-before_last (a ∷ b ∷ list) = omega (arith, before_last (b ∷ list))
-
 -- the limits of the capped cells: how many, each with ceiling 1
 pub capped_length : (i : ℕ) (agents : List Agent) → length (capped_limits i agents) ≡ caps_before agents
 unfolding capped_limits
 capped_length i [] = refl
 capped_length i (w ∷ agents) =
     let cells : ℕ → Limit = λ a. record { ceiling = 1; cells = record { agent = i; object = a } ∷ [] } in
-    parts (nat_le 2 w.demand) (map cells (but_last w.list)) (capped_limits (i + 1) agents) (length w.list - 1) (length-map (but_last w.list) cells ∙ before_last w.list)
+    parts (nat_le 2 w.demand) (map cells (but_last w.list)) (capped_limits (i + 1) agents) (length w.list - 1) (length-map (but_last w.list) cells ∙ before_last_length w.list)
     ∙ ap (λ n. capped_count w.demand w.list + n) (capped_length (i + 1) agents) ∙ sym (sum_by-cons (λ (w : Agent). capped_count w.demand w.list) w agents)
   where
     parts : (b : Bool) (xs ys : List Limit) (n : ℕ) → length xs ≡ n → length (cond b xs [] ++ ys) ≡ cond b n 0 + length ys
@@ -103,7 +98,7 @@ capped_ones i (w ∷ agents) =
     each (a ∷ list) = ap (λ xs. 1 ∷ xs) (each list)
 
     head : (b : Bool) → map (λ (s : Limit). s.ceiling) (cond b (map (λ (a : ℕ). record { ceiling = 1; cells = record { agent = i; object = a } ∷ [] }) (but_last w.list)) []) ≡ replicate (cond b (length w.list - 1) 0) 1
-    head true = each (but_last w.list) ∙ ap (λ n. replicate n 1) (before_last w.list)
+    head true = each (but_last w.list) ∙ ap (λ n. replicate n 1) (before_last_length w.list)
     head false = refl
 
 -- one set's ceiling more

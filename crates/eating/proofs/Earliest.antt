@@ -1,10 +1,10 @@
 -- The earliest moment, one limit after the other.
-use Rattle.std.proofs.Common.{◌≡◌, ◌≢◌, ℕ, suc, zero, ◌+◌, ◌*◌, ◌<◌, ◌≤◌, List, Option, Some, None, refl, ap, sym, ◌∙◌, subst, inl, inr, arith, mul-le-mul_left, mul_comm}
-use Rattle.std.specs.Prelude.{slice_index, MatchOption, ◌⊎◌}
+use Rattle.std.proofs.Common.{◌≡◌, ◌≢◌, ℕ, ◌+◌, ◌*◌, ◌<◌, ◌≤◌, List, Option, Some, None, sym, subst, inl, inr, arith, mul-le-mul_left}
+use Rattle.std.specs.Prelude.{slice_index, MatchOption}
 use Rattle.std.proofs.lemmas.Bool.{cases_lt}
 use Rattle.frac128.specs.Fraction.{numerator, denominator}
 use Rattle.frac128.specs.declared.fractions.Fraction.{Fraction}
-use Rattle.eating.specs.Steps.{IsKey, IsNoLater, IsEarliest, IsNoneNext, IsNext, IsEarlier}
+use Rattle.eating.specs.Steps.{IsKey, IsNoLater, IsEarliest, IsNext, IsEarlier}
 use Rattle.eating.proofs.Keys.{through, key_below_one}
 
 key_small : (U u r v : ℕ) (m : Fraction) → IsKey U u r v m → numerator m < denominator m

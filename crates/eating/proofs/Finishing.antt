@@ -1,5 +1,5 @@
 -- What is handed out in the end.
-use Rattle.std.proofs.Common.{◌≡◌, ◌≢◌, ℕ, suc, zero, ◌+◌, ◌-◌, ◌*◌, ◌<◌, ◌≤◌, ◌++◌, List, [], ◌∷◌, Bool, true, false, cond, Option, Some, length, map, take, drop, get_or, replicate, refl, ap, sym, ◌∙◌, subst, arith, inl, inr}
+use Rattle.std.proofs.Common.{◌≡◌, ℕ, suc, ◌+◌, ◌-◌, ◌*◌, ◌<◌, ◌≤◌, List, [], ◌∷◌, Bool, true, false, cond, Option, Some, length, map, take, drop, get_or, refl, ap, sym, ◌∙◌, subst, arith}
 use Rattle.std.specs.Prelude.{nat_eq, slice_get, slice_index, sum, sum_by, ◌^◌, All, flat_map, nat_le}
 use Rattle.std.specs.Option.{option_map_or}
 use Rattle.std.specs.List.{IsDistinct, range_with_len}
@@ -7,25 +7,25 @@ use Rattle.std.specs.Set.{is_member}
 use Rattle.std.proofs.Math.Nat.{add-mul, mul-le-mul_right}
 use Rattle.std.proofs.lemmas.Bool.{false_from_ne_true, both_ways}
 use Rattle.std.proofs.lemmas.Option.{slice_get-get_or, slice_get_within, same_Some}
-use Rattle.std.proofs.lemmas.List.{drop_at, get_or-map, get_or-replicate, length-map, length-replicate, get_or-take, length-take, get_or_default}
+use Rattle.std.proofs.lemmas.List.{drop_at, get_or-map, get_or-replicate, length-map, get_or-take, length-take, get_or_default}
 use Rattle.std.proofs.lemmas.List.Elements.{All-append, All-map, All-take, All-weaker}
 use Rattle.std.proofs.lemmas.List.Sums.{sum_by-cons, sum_by-append}
 use Rattle.definitions.specs.declared.Cell.{Cell}
-use Rattle.definitions.specs.Sets.{cell_of, holds, same_cell, row_cells, row_sum, all_cells, unit_at, units_of, SetValue, IsQuotaSet, ScaledValue, IsScaledMatrix}
-use Rattle.definitions.specs.Values.{Limit, Agent, Market, ProblemValue, IsProblem, IsListUpTo, column_count, capped_limits, market_of, limits_of, stated_sets, list_at, demand_at}
-use Rattle.definitions.specs.Eating.{full_at, moment_at, share, demand_sum, IsAssignmentOf, IsEatingTable, IsLowestTerms}
+use Rattle.definitions.specs.Sets.{cell_of, holds, row_cells, row_sum, all_cells, unit_at, SetValue, IsQuotaSet, ScaledValue, IsScaledMatrix}
+use Rattle.definitions.specs.Values.{Limit, Agent, ProblemValue, IsProblem, column_count, capped_limits, market_of, limits_of, stated_sets, list_at, demand_at}
+use Rattle.definitions.specs.Eating.{full_at, share, IsAssignmentOf, IsEatingTable, IsLowestTerms}
 use Rattle.definitions.proofs.Members.{number_test, member_at}
 use Rattle.definitions.proofs.Sums.{unit_at_within, sum_of_units}
 use Rattle.eating_laws.specs.Shares.{IsMatrixFor}
-use Rattle.eating_laws.proofs.Full.{cells_at, full_le}
+use Rattle.eating_laws.proofs.Full.{cells_at}
 use Rattle.definitions.proofs.Problems.{agent_of, list_lawful}
 use Rattle.eating_laws.proofs.Limits.{agent_count, demand_total}
 use Rattle.eating_laws.proofs.Assignment.{eating_assigns}
-use Rattle.eating.specs.Caps.{capped_count, caps_before}
+use Rattle.eating.specs.Caps.{caps_before}
 use Rattle.eating.specs.Plan.{LineValue, IsSmall, AreLinesOf}
 use Rattle.eating.specs.Serving.{AreListsWithin, IsServed, IsUncappedOffLists}
 use Rattle.eating.specs.Eaten.{EatenValue, IsEatenValue}
-use Rattle.eating.specs.Answers.{IsEatenBy, AreCaps, cap_at}
+use Rattle.eating.specs.Answers.{IsEatenBy, cap_at}
 use Rattle.eating.proofs.Capped.{cap_found, IsCapAt}
 use Rattle.eating.proofs.Counts.{capped_length, capped_ones}
 use Rattle.eating.proofs.Slots.{stated_count}

@@ -1,14 +1,12 @@
 -- The step to the earliest moment, in numbers alone.
 use Rattle.std.proofs.Common.{◌≡◌, ℕ, suc, zero, ◌+◌, ◌-◌, ◌*◌, ◌<◌, ◌≤◌, List, length, ap, sym, ◌∙◌, arith, mul_comm, mul_assoc, subst}
 use Rattle.std.specs.Prelude.{slice_index, ◌/◌}
-use Rattle.std.specs.Int.{◌∣◌}
 use Rattle.std.proofs.Math.Nat.{mul-add, mul-lt-mul_of_pos_left, le_of_mul-le-mul_right, le_of_dvd, dvd-mul_right, mul-pos, mul-div_cancel'}
-use Rattle.std.proofs.lemmas.Bool.{cases_lt}
 use Rattle.frac128.specs.Lcm.{IsLcm}
 use Rattle.frac128.specs.Measure.{factor_positive}
 use Rattle.frac128.specs.Fraction.{numerator, denominator}
 use Rattle.frac128.specs.declared.fractions.Fraction.{Fraction}
-use Rattle.eating.specs.Steps.{IsKey, IsEarliest, IsWithin}
+use Rattle.eating.specs.Steps.{IsEarliest, IsWithin}
 use Rattle.eating.proofs.Keys.{key_order, key_equal, key_below_one, key_divides, multiple_positive}
 
 module _ (U u : ℕ) (e rests speeds : List ℕ) (unit_positive : 0 < U) (m : Fraction) (next : IsEarliest U u (length e) e rests speeds m) (U' : ℕ) (least : IsLcm U (denominator m) U') where

@@ -1,7 +1,7 @@
 -- What the eater hands out.
-use Rattle.std.proofs.Common.{◌≡◌, ℕ, ◌+◌, ◌*◌, ◌<◌, ◌≤◌, ◌++◌, List, length, take, drop, ap, sym, ◌∙◌, subst, arith}
-use Rattle.std.specs.Prelude.{slice_index, ◌^◌, All}
-use Rattle.definitions.specs.Sets.{ScaledValue, IsScaledMatrix}
+use Rattle.std.proofs.Common.{◌≡◌, ℕ, ◌+◌, ◌*◌, ◌<◌, ◌≤◌, List, length, take, drop, ap, sym, ◌∙◌, subst, arith}
+use Rattle.std.specs.Prelude.{slice_index, ◌^◌}
+use Rattle.definitions.specs.Sets.{IsScaledMatrix}
 use Rattle.definitions.specs.Values.{Market, ProblemValue, IsProblem, column_count, market_of, limits_of}
 use Rattle.definitions.specs.Eating.{full_at, share, IsEatingTable, IsLowestTerms}
 use Rattle.eating_laws.proofs.Full.{full_le}
@@ -9,7 +9,7 @@ use Rattle.eating_laws.proofs.Limits.{agent_count}
 use Rattle.eating.specs.declared.eater.Eater.{Eater}
 use Rattle.eating.specs.Answers.{IsEatenBy, IsTooFineAt}
 use Rattle.eating.specs.Eaten.{EatenValue, IsEatenValue}
-use Rattle.eating.specs.Plan.{LineValue, AreLines, AreLinesOf}
+use Rattle.eating.specs.Plan.{LineValue}
 use Rattle.eating.specs.Runs.{IsRunOf, IsTooFineIn}
 use Rattle.eating.specs.Serving.{IsEaterOf, AreListsWithin, IsServed, IsUncappedOffLists}
 use Rattle.eating.proofs.Starting.{each_cell}
@@ -51,7 +51,7 @@ module _ (p : ProblemValue) (h : IsProblem p) (s : Eater) (eater : IsEaterOf p s
       (many : length units ≡ length s.units.items) (many_caps : length caps ≡ length s.caps.items)
       (served : (market : Market) → IsServed market s.lines.items e → (i a : ℕ) → i < length s.lines.items → a < s.columns → slice_index units (i * s.columns + a) ≡ share market U e i a)
       (capped : (market : Market) → IsServed market s.lines.items e → IsUncappedOffLists market s.stated → (i a : ℕ) → i < length s.lines.items → a < s.columns
-          → slice_index caps (i * s.columns + a) ≡ full_at U (drop s.stated market.limits) (drop s.stated e) i a) where
+      → slice_index caps (i * s.columns + a) ≡ full_at U (drop s.stated market.limits) (drop s.stated e) i a) where
     all_served : IsServed (market_of p) s.lines.items e
     all_served = problem_served p h s.lines.items e eater.lines table.size
 

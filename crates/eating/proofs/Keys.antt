@@ -1,11 +1,10 @@
 -- The earliest moment at which an open limit is full, and the step to it.
-use Rattle.std.proofs.Common.{◌≡◌, ◌≢◌, ℕ, suc, zero, ◌+◌, ◌-◌, ◌*◌, ◌<◌, ◌≤◌, List, length, map, refl, ap, sym, ◌∙◌, subst, inl, inr, arith, mul_comm, mul_assoc, mul-le-mul_left}
-use Rattle.std.specs.Prelude.{◌/◌, ◌⊎◌, slice_index}
+use Rattle.std.proofs.Common.{◌≡◌, ℕ, ◌+◌, ◌*◌, ◌<◌, ◌≤◌, ap, sym, ◌∙◌, subst, arith, mul_comm, mul-le-mul_left}
+use Rattle.std.specs.Prelude.{◌/◌}
 use Rattle.std.specs.Int.{◌∣◌}
-use Rattle.std.proofs.Math.Nat.{mul_left_comm, mul-add, eq_of_mul-eq-mul_left, lt_of_mul-lt-mul_left, le_of_mul-le-mul_right, mul-le-mul_right, mul-div_cancel', mul-lt-mul_of_pos_left, le_of_dvd, dvd-mul_right, dvd-mul_left, mul-pos}
-use Rattle.std.proofs.lemmas.Bool.{cases_lt, cases_order}
+use Rattle.std.proofs.Math.Nat.{eq_of_mul-eq-mul_left, lt_of_mul-lt-mul_left, le_of_mul-le-mul_right, mul-div_cancel', mul-lt-mul_of_pos_left, dvd-mul_right, dvd-mul_left, mul-pos}
 use Rattle.frac128.specs.Lcm.{IsLcm}
-use Rattle.frac128.specs.Measure.{IsLowest, multiple_of_lowest, factor_positive}
+use Rattle.frac128.specs.Measure.{multiple_of_lowest, factor_positive}
 
 le_from_product : (c x y : ℕ) → 0 < c → c * x ≤ c * y → x ≤ y
 le_from_product c x y p h = le_of_mul-le-mul_right (omega (arith, h, mul_comm c x, mul_comm c y)) p

@@ -1,11 +1,10 @@
 -- Least numbers over lists of slots, part by part.
-use Rattle.std.proofs.Common.{◌≡◌, ℕ, suc, zero, ◌+◌, ◌-◌, ◌<◌, ◌≤◌, List, [], ◌∷◌, Bool, true, false, cond, length, get_or, drop, refl, ap, sym, ◌∙◌, arith, inl, inr, subst, Some, Option}
-use Rattle.std.specs.Prelude.{min, All, nat_le, count_by, ◌==◌, slice_get}
+use Rattle.std.proofs.Common.{◌≡◌, ℕ, suc, zero, ◌+◌, ◌-◌, ◌<◌, ◌≤◌, List, [], ◌∷◌, Bool, true, false, cond, length, get_or, drop, refl, ap, sym, ◌∙◌, arith, inl, inr, subst, Option}
+use Rattle.std.specs.Prelude.{min, nat_le, count_by, ◌==◌, slice_get}
 use Rattle.std.specs.Option.{option_map_or}
 use Rattle.std.proofs.lemmas.Bool.{cases_lt, cases_Bool, le-leb, lt-leb, eqb-true, eq-eqb}
 use Rattle.std.proofs.lemmas.List.{at_drop_more, at_drop_all, get_or-drop, length-drop}
 use Rattle.std.proofs.lemmas.List.Sums.{sum_by-cons, get_or-le-sum_by}
-use Rattle.definitions.specs.declared.Cell.{Cell}
 use Rattle.definitions.specs.Sets.{cell_of, holds}
 use Rattle.definitions.specs.Values.{Limit, Market}
 use Rattle.definitions.specs.Eating.{full_at, moment_at, slot_cells}

@@ -20,3 +20,4 @@ pub mod Lines
 pub mod Finishing
 pub mod Starting
 pub mod Handing
+mod SmallestProblem

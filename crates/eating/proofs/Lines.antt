@@ -1,26 +1,25 @@
 -- The lines of a problem's agents.
-use Rattle.std.proofs.Common.{◌≡◌, ◌≢◌, ℕ, suc, zero, ◌+◌, ◌-◌, ◌<◌, ◌≤◌, ◌++◌, List, [], ◌∷◌, Bool, true, false, cond, Option, Some, None, length, map, take, get_or, refl, ap, sym, ◌∙◌, subst, arith, inl, inr}
-use Rattle.std.specs.Prelude.{nat_eq, slice_get, slice_index, count_by, sum_by, unwrap_or, ◌==◌, All}
-use Rattle.std.specs.List.{AllByRecursion, range_with_len}
-use Rattle.std.proofs.lemmas.Bool.{cases_lt, eq-eqb, ne_eqb, cases_Bool}
-use Rattle.std.proofs.lemmas.Option.{slice_get-get_or, slice_get_past, slice_get_within, get_or_from_slice_get, same_Some}
-use Rattle.std.proofs.lemmas.List.{length-map, get_or-map, get_or_default, get_or_past}
+use Rattle.std.proofs.Common.{◌≡◌, ℕ, suc, zero, ◌+◌, ◌-◌, ◌<◌, ◌≤◌, ◌++◌, List, [], ◌∷◌, Bool, true, false, cond, Option, Some, length, map, take, get_or, refl, ap, sym, ◌∙◌, subst, arith, inl, inr}
+use Rattle.std.specs.Prelude.{slice_get, slice_index, count_by, sum_by, unwrap_or, ◌==◌, All}
+use Rattle.std.specs.List.{range_with_len}
+use Rattle.std.proofs.lemmas.Bool.{cases_lt, eq-eqb, ne_eqb}
+use Rattle.std.proofs.lemmas.Option.{slice_get-get_or, slice_get_past, get_or_from_slice_get, same_Some}
+use Rattle.std.proofs.lemmas.List.{length-map, get_or-map}
 use Rattle.std.proofs.lemmas.List.Elements.{All-from_recursion}
 use Rattle.std.proofs.lemmas.List.FromFn.{length-range_with_len, get_or-range_with_len, map-range_with_len_more}
-use Rattle.std.proofs.lemmas.List.Sums.{sum_by-cons, get_or-le-sum_by}
+use Rattle.std.proofs.lemmas.List.Sums.{sum_by-cons}
 use Rattle.std.specs.Option.{option_map_or}
 use Rattle.definitions.specs.declared.Cell.{Cell}
 use Rattle.definitions.specs.Sets.{cell_of, holds}
 use Rattle.definitions.specs.Hierarchies.{TreesValue, AreTreesOf}
 use Rattle.definitions.specs.Values.{Limit, Agent, Market, ProblemValue, IsProblem, market_of, limits_of, list_at, demand_at}
-use Rattle.definitions.specs.Eating.{slot_cells, demand_sum}
+use Rattle.definitions.specs.Eating.{slot_cells}
 use Rattle.eating_laws.proofs.Holders.{IsHolders}
-use Rattle.definitions.proofs.Problems.{agent_of, list_lawful}
+use Rattle.definitions.proofs.Problems.{list_lawful}
 use Rattle.eating_laws.proofs.Limits.{agent_count, none_free, demand_total}
-use Rattle.eating_laws.proofs.Full.{cells_at}
 use Rattle.eating.specs.Caps.{capped_count, caps_before}
 use Rattle.eating.specs.Holders.{holders_in, made_holders}
-use Rattle.eating.specs.Plan.{LineValue, holders_at, IsLine, IsLineOf, AreLines, AreLinesOf}
+use Rattle.eating.specs.Plan.{LineValue, holders_at, IsLine, IsLineOf, AreLinesOf}
 use Rattle.eating.proofs.Counts.{list_short}
 use Rattle.eating.proofs.Slots.{slots_right}
 
@@ -157,8 +156,13 @@ same_demands [] [] many h = refl
 same_demands [] (x ∷ lines) many h = absurd (omega arith)
 same_demands (w ∷ agents) [] many h = absurd (omega arith)
 same_demands (w ∷ agents) (x ∷ lines) many h =
-    omega (arith, sum_by-cons (λ (line : LineValue). line.demand) x lines, sum_by-cons (λ (v : Agent). v.demand) w agents, h 0 w x refl refl,
-      same_demands agents lines (omega arith) (λ i v line a b. h (suc i) v line a b))
+    omega (
+      arith,
+      sum_by-cons (λ (line : LineValue). line.demand) x lines,
+      sum_by-cons (λ (v : Agent). v.demand) w agents,
+      h 0 w x refl refl,
+      same_demands agents lines (omega arith) (λ i v line a b. h (suc i) v line a b),
+    )
 
 -- the lines of all agents
 pub lines_right : (p : ProblemValue) (lines : List LineValue) → IsProblem p → length lines ≡ length p.agents

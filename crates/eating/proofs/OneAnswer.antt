@@ -1,13 +1,16 @@
 -- A problem has one answer of eating: one table that is eaten, or one first table that is too fine, and not both.
-use Rattle.std.proofs.Common.{◌≡◌, ℕ, suc, zero, ◌+◌, ◌*◌, ◌<◌, ◌≤◌, List, length, take, drop, get_or, refl, ap, sym, ◌∙◌, subst, arith, mul_comm}
-use Rattle.std.specs.Prelude.{◌/◌, ◌%◌}
+use Rattle.std.proofs.Common.{◌≡◌, ℕ, suc, zero, ◌+◌, ◌*◌, ◌<◌, ◌≤◌, List, length, get_or, ap, sym, ◌∙◌, subst, arith, mul_comm}
+use Rattle.std.specs.Prelude.{◌/◌, ◌%◌, ◌^◌, nat_eq}
 use Rattle.std.proofs.Math.Nat.{div-add-mod, mod-lt}
 use Rattle.std.proofs.lemmas.List.{ext_get_or}
 use Rattle.definitions.specs.Sets.{ScaledValue, cell_of, unit_at}
-use Rattle.definitions.specs.Values.{ProblemValue, column_count, market_of}
-use Rattle.definitions.specs.Eating.{share, IsAssignmentOf}
+use Rattle.definitions.specs.Values.{ProblemValue, IsProblem, column_count, market_of, limits_of}
+use Rattle.definitions.specs.Eating.{share, demand_sum, IsAssignmentOf}
+use Rattle.definitions.proofs.Members.{number_test, member_at}
 use Rattle.definitions.proofs.Sums.{unit_at_within}
 use Rattle.eating_laws.specs.Shares.{IsMatrixFor}
+use Rattle.eating_laws.proofs.Bound.{partial_bound}
+use Rattle.eating_laws.proofs.Limits.{demands_some}
 use Rattle.eating_laws.proofs.Fine.{below_from_product}
 use Rattle.eating_laws.proofs.Unique.{same_table}
 use Rattle.eating_laws.proofs.TooFine.{not_too_fine, one_first}
@@ -94,3 +97,11 @@ eaten_not_too_fine p v D h k = not_too_fine (market_of p) v.shares.denominator D
 -- a problem has one first table that is too fine at most
 pub one_too_fine_at : (p : ProblemValue) (D D' : ℕ) → IsTooFineAt p D → IsTooFineAt p D' → D ≡ D'
 one_too_fine_at p D D' h k = (one_first (market_of p) D D' h.moment k.moment h.table k.table h.first k.first).0
+
+-- where the sum of demands to the power of the number of limits is at most 2^116, no table is too fine
+pub few_limits_fit : (p : ProblemValue) (D : ℕ) → IsProblem p → demand_sum (market_of p) ^ length (limits_of p) ≤ 2 ^ 116 → IsTooFineAt p D → ⊥
+few_limits_fit p D h few k =
+    let bound = partial_bound (market_of p) D k.moment k.table k.table k.first.partial k.first.lowest (demands_some p h) (λ j l m. member_at nat_eq number_test k.table j 0 l) in
+    let many = ap (λ n. demand_sum (market_of p) ^ n) k.first.partial.size in
+    let above : 2 ^ 116 < D = k.first.above in
+    omega (arith, bound, many, few, above)

@@ -1,22 +1,21 @@
 -- The first moment, the step to the next, and the step that is too fine.
-use Rattle.std.proofs.Common.{◌≡◌, ◌≢◌, ℕ, suc, zero, ◌+◌, ◌-◌, ◌*◌, ◌<◌, ◌≤◌, List, Bool, true, false, cond, length, map, get_or, replicate, refl, ap, sym, ◌∙◌, subst, arith, inl, inr, mul_comm, mul_assoc, mul-le-mul_left}
-use Rattle.std.specs.Prelude.{min, slice_index, ◌/◌, ◌==◌, ◌⊎◌, ◌^◌}
-use Rattle.std.specs.Int.{◌∣◌}
+use Rattle.std.proofs.Common.{◌≡◌, ℕ, ◌+◌, ◌-◌, ◌*◌, ◌<◌, ◌≤◌, List, cond, length, map, ap, sym, ◌∙◌, subst, arith, inl, inr, mul_comm, mul-le-mul_left}
+use Rattle.std.specs.Prelude.{slice_index, ◌/◌, ◌==◌, ◌⊎◌, ◌^◌}
 use Rattle.std.specs.List.{range_with_len}
-use Rattle.std.proofs.Math.Nat.{mul-div_cancel', mul-le-mul_right, eq_of_mul-eq-mul_right, le_of_dvd}
-use Rattle.std.proofs.lemmas.Bool.{cases_lt, cases_order, eq-eqb, ne_eqb}
+use Rattle.std.proofs.Math.Nat.{mul-div_cancel', le_of_dvd}
+use Rattle.std.proofs.lemmas.Bool.{cases_lt, eq-eqb, ne_eqb}
 use Rattle.std.proofs.lemmas.List.{length-map, get_or-map}
 use Rattle.std.proofs.lemmas.List.FromFn.{length-range_with_len, get_or-range_with_len}
 use Rattle.definitions.specs.Values.{Market}
-use Rattle.definitions.specs.Eating.{eaten_by, moment_at, slot_cells, slot_ceiling, IsLowestTerms, IsFirstTooFine}
+use Rattle.definitions.specs.Eating.{eaten_by, slot_cells, slot_ceiling, IsLowestTerms, IsFirstTooFine}
 use Rattle.eating_laws.proofs.Sums.{eaten_zero}
 use Rattle.eating_laws.proofs.Right.{IsRightBelow}
-use Rattle.frac128.specs.Lcm.{IsLcm, IsBeyond}
+use Rattle.frac128.specs.Lcm.{IsBeyond}
 use Rattle.frac128.specs.Fraction.{numerator, denominator}
 use Rattle.frac128.specs.declared.fractions.Fraction.{Fraction}
 use Rattle.eating.specs.Steps.{IsReady, IsAdvanced, AreAdvanced, IsEarliest}
 use Rattle.eating.specs.Runs.{IsTooFineIn}
-use Rattle.eating.proofs.Going.{new_within, slow, moment_after, factor_some}
+use Rattle.eating.proofs.Going.{new_within, slow, moment_after}
 use Rattle.eating.proofs.Stepping.{step_too_fine}
 
 -- at moment 0 the limits with ceiling 0 are full, and nothing is eaten

@@ -1,7 +1,6 @@
 -- Rows of matrices, written place by place.
-use Rattle.std.proofs.Common.{◌≡◌, ◌≢◌, ℕ, suc, zero, ◌+◌, ◌-◌, ◌*◌, ◌<◌, ◌≤◌, List, [], ◌∷◌, Bool, true, false, cond, Option, Some, length, take, drop, get_or, set, refl, ap, sym, ◌∙◌, subst, arith, inl, inr, mul-le-mul_left, mul_comm}
+use Rattle.std.proofs.Common.{◌≡◌, ◌≢◌, ℕ, suc, zero, ◌+◌, ◌-◌, ◌*◌, ◌<◌, ◌≤◌, List, [], ◌∷◌, Bool, true, false, cond, Some, length, take, drop, get_or, set, refl, ap, sym, ◌∙◌, subst, arith, inl, inr}
 use Rattle.std.specs.Prelude.{min, max, nat_eq, slice_index, slice_get, All, ◌⊎◌, ◌||◌}
-use Rattle.std.specs.List.{IsDistinct, AllByRecursion}
 use Rattle.std.specs.Set.{is_member}
 use Rattle.std.proofs.Math.Nat.{mul-le-mul_right, add-mul}
 use Rattle.std.proofs.lemmas.Bool.{cases_lt, cases_order, eq-eqb, ne_eqb, false_from_ne_true, cases_Bool}
@@ -11,10 +10,9 @@ use Rattle.std.proofs.lemmas.List.{get_or-set_same, get_or-set_other, take_all}
 use Rattle.definitions.specs.Values.{Agent, Market}
 use Rattle.definitions.specs.Eating.{full_at, reached, share}
 use Rattle.definitions.proofs.Members.{number_test, member_place}
-use Rattle.eating_laws.proofs.Full.{full_le}
-use Rattle.eating_laws.proofs.Holders.{least_of, least_le, full_holders}
+use Rattle.eating_laws.proofs.Holders.{least_of, full_holders}
 use Rattle.eating_laws.proofs.Shares.{place_share}
-use Rattle.eating.specs.Plan.{LineValue, holders_at, IsLineOf, AreLines, AreLinesOf, least_from}
+use Rattle.eating.specs.Plan.{LineValue, holders_at, AreLines, least_from}
 use Rattle.eating.specs.Serving.{IsRow, IsServable, IsServed}
 use Rattle.eating.proofs.Leasts.{full_from_holders}
 

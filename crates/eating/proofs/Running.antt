@@ -1,31 +1,23 @@
 -- From moment to moment: the state of eating.
-use Rattle.std.proofs.Common.{◌≡◌, ◌≢◌, ℕ, suc, zero, ◌+◌, ◌-◌, ◌*◌, ◌<◌, ◌≤◌, List, [], ◌∷◌, Bool, true, false, cond, Option, Some, length, map, take, get_or, replicate, refl, ap, sym, ◌∙◌, subst, arith, inl, inr, mul_comm, mul-le-mul_left}
-use Rattle.std.specs.Prelude.{min, slice_index, slice_get, ◌/◌, ◌==◌, ◌⊎◌, ◌^◌, count_by, sum_by, All}
+use Rattle.std.proofs.Common.{◌≡◌, ◌≢◌, ℕ, suc, zero, ◌+◌, ◌-◌, ◌*◌, ◌<◌, ◌≤◌, List, [], ◌∷◌, true, false, cond, Option, length, take, get_or, replicate, ap, sym, ◌∙◌, subst, arith, inl, inr, mul_comm}
+use Rattle.std.specs.Prelude.{slice_index, ◌==◌, ◌⊎◌, ◌^◌, count_by}
 use Rattle.std.specs.Option.{option_map_or}
-use Rattle.std.specs.Int.{◌∣◌}
-use Rattle.std.specs.List.{range_with_len}
-use Rattle.std.proofs.Math.Nat.{mul-add, add-mul, mul-lt-mul_of_pos_left, mul-div_cancel', le_of_dvd, mul-le-mul_right, eq_of_mul-eq-mul_right, mul_assoc}
-use Rattle.std.proofs.lemmas.Bool.{cases_lt, cases_order, eq-eqb, ne_eqb, cases_Bool, eqb-true}
+use Rattle.std.proofs.Math.Nat.{mul-add, mul-lt-mul_of_pos_left, mul-le-mul_right}
+use Rattle.std.proofs.lemmas.Bool.{cases_lt, eq-eqb, ne_eqb, cases_Bool, eqb-true}
 use Rattle.std.proofs.lemmas.Option.{slice_get-get_or}
-use Rattle.std.proofs.lemmas.List.{get_or_past, take_all, length-replicate, get_or-replicate, length-map}
+use Rattle.std.proofs.lemmas.List.{get_or_past, take_all, length-replicate, get_or-replicate}
 use Rattle.std.proofs.lemmas.List.Sums.{sum_by-cons}
-use Rattle.definitions.specs.Values.{Limit, Agent, Market}
+use Rattle.definitions.specs.Values.{Limit, Market}
 use Rattle.definitions.specs.Eating.{eaten_by, moment_at, slot_cells, slot_ceiling, IsEatingTable, IsLowestTerms}
-use Rattle.eating_laws.proofs.Sums.{eaten_zero}
-use Rattle.eating_laws.proofs.Right.{IsRightBelow, IsRightAt}
-use Rattle.eating_laws.proofs.Holders.{least_of, least_le}
-use Rattle.frac128.specs.Lcm.{IsLcm, IsBeyond}
-use Rattle.frac128.specs.Fraction.{numerator, denominator}
-use Rattle.frac128.specs.declared.fractions.Fraction.{Fraction}
+use Rattle.eating_laws.proofs.Right.{IsRightBelow}
+use Rattle.eating_laws.proofs.Holders.{least_of}
 use Rattle.eating.specs.declared.progress.Progress.{Progress}
-use Rattle.eating.specs.Plan.{LineValue, holders_at, IsLine, AreLines, AreLinesOf, IsSmall}
-use Rattle.eating.specs.Seats.{IsSoFar, IsSeat, AreSoFar, AreSeats, seat_speed}
-use Rattle.eating.specs.Steps.{IsReady, IsAdvanced, AreAdvanced, IsEarliest, IsNoneNext, IsWithin}
-use Rattle.eating.specs.Runs.{IsAt, IsStart, IsRunOf, IsStepTo, IsTooFineIn}
+use Rattle.eating.specs.Plan.{LineValue, holders_at, AreLines, AreLinesOf, IsSmall}
+use Rattle.eating.specs.Seats.{AreSoFar, AreSeats, seat_speed}
+use Rattle.eating.specs.Steps.{AreAdvanced, IsNoneNext, IsWithin}
+use Rattle.eating.specs.Runs.{IsAt}
 use Rattle.eating.proofs.Between.{end_table}
-use Rattle.eating.proofs.Going.{new_within}
 use Rattle.eating.proofs.Seating.{seats_speed, seat_bound}
-use Rattle.eating.proofs.Stepping.{step_right, step_left, step_lowest, step_full, step_too_fine}
 
 -- no ceiling is above 1,000
 pub slot_small : (market : Market) (j : ℕ) → IsSmall market → j < length market.limits → slot_ceiling market j ≤ 1000

@@ -1,20 +1,19 @@
 -- The agents' seats, and the speeds that they make.
-use Rattle.std.proofs.Common.{◌≡◌, ◌≢◌, ℕ, suc, zero, ◌+◌, ◌-◌, ◌*◌, ◌<◌, ◌≤◌, List, [], ◌∷◌, Bool, true, false, cond, Option, Some, length, get_or, set, take, refl, ap, sym, ◌∙◌, subst, inl, inr, arith, mul-le-mul_left}
-use Rattle.std.specs.Prelude.{count_by, sum_by, ◌==◌, slice_get, slice_index, nat_eq, ◌⊎◌, ◌^◌, min}
+use Rattle.std.proofs.Common.{◌≡◌, ◌≢◌, ℕ, suc, zero, ◌+◌, ◌*◌, ◌<◌, ◌≤◌, List, [], ◌∷◌, Bool, true, false, cond, Some, length, get_or, set, take, refl, ap, sym, ◌∙◌, subst, inl, inr, arith, mul-le-mul_left}
+use Rattle.std.specs.Prelude.{count_by, sum_by, ◌==◌, slice_get, slice_index, ◌⊎◌, ◌^◌, min}
 use Rattle.std.proofs.Math.Nat.{mul-add}
-use Rattle.std.proofs.lemmas.Bool.{cases_order, eqb-true, eq-eqb, ne_eqb, cases_lt}
+use Rattle.std.proofs.lemmas.Bool.{cases_order, eq-eqb, ne_eqb, cases_lt}
 use Rattle.std.proofs.lemmas.List.{get_or-set_same, get_or-set_other, length-set, take-set}
 use Rattle.std.proofs.lemmas.Option.{same_Some}
 use Rattle.std.proofs.lemmas.List.Sums.{sum_by-cons, sum_by_more, sum_by_more_le}
 use Rattle.definitions.specs.Sets.{cell_of, holds}
-use Rattle.definitions.specs.Values.{Agent, Limit, Market}
+use Rattle.definitions.specs.Values.{Agent, Market}
 use Rattle.definitions.specs.Eating.{full_at, moment_at, slot_cells}
 use Rattle.eating_laws.proofs.Line.{rate, rate_at}
 use Rattle.eating_laws.proofs.Sums.{speed_from, speed_of}
 use Rattle.eating_laws.proofs.Holders.{IsHolders, least_of, least_le, full_holders}
-use Rattle.eating.specs.Plan.{LineValue, holders_at, IsLine, IsLineOf, AreLines, AreLinesOf}
-use Rattle.eating.specs.Seats.{IsSoFar, IsSeat, AreSoFar, AreSeats, seat_speed}
-use Rattle.eating.proofs.Leasts.{least_none}
+use Rattle.eating.specs.Plan.{LineValue, holders_at, IsLineOf, AreLines, AreLinesOf}
+use Rattle.eating.specs.Seats.{IsSeat, AreSeats, seat_speed}
 
 -- one holder more
 pub added : (speeds old holders : List ℕ) (d i : ℕ) → i < length holders → get_or holders i 0 < length speeds

@@ -1,20 +1,17 @@
 -- The slots of a place are those of the limits that hold its cell.
-use Rattle.std.proofs.Common.{◌≡◌, ◌≢◌, ℕ, suc, zero, ◌+◌, ◌-◌, ◌<◌, ◌≤◌, ◌++◌, List, [], ◌∷◌, Bool, true, false, cond, Option, Some, None, length, map, take, get_or, refl, ap, sym, ◌∙◌, subst, arith, inl, inr, length-take, length-append}
-use Rattle.std.specs.Prelude.{nat_eq, nat_le, nat_lt, slice_get, slice_index, count_by, sum_by, ◌==◌, All, ◌⊎◌}
-use Rattle.std.specs.Option.{option_map_or}
-use Rattle.std.specs.List.{IsDistinct, AllByRecursion}
+use Rattle.std.proofs.Common.{◌≡◌, ◌≢◌, ℕ, suc, zero, ◌+◌, ◌-◌, ◌<◌, ◌≤◌, ◌++◌, List, [], ◌∷◌, Bool, true, false, cond, length, map, take, get_or, refl, ap, sym, ◌∙◌, subst, arith, inl, inr, length-take, length-append}
+use Rattle.std.specs.Prelude.{nat_eq, nat_le, nat_lt, slice_index, count_by, sum_by, ◌==◌, All}
+use Rattle.std.specs.List.{AllByRecursion}
 use Rattle.std.specs.Set.{is_member}
-use Rattle.std.proofs.lemmas.Bool.{cases_lt, both_ways, or_cases, or_right, eqb-true, eq-eqb, ne_eqb, cases_Bool, cases_order, false_from_ne_true, lt-ltb, le-ltb}
-use Rattle.std.proofs.lemmas.Option.{slice_get-get_or, slice_get-map}
+use Rattle.std.proofs.lemmas.Bool.{cases_lt, both_ways, or_right, eq-eqb, ne_eqb, cases_Bool, cases_order, false_from_ne_true, lt-ltb, le-ltb}
 use Rattle.std.proofs.lemmas.List.{length-map, get_or-take}
 use Rattle.std.proofs.lemmas.List.Elements.{All-append, All-from_recursion}
 use Rattle.std.proofs.lemmas.List.Sums.{sum_by-cons, sum_by-append}
-use Rattle.definitions.specs.declared.Cell.{Cell}
-use Rattle.definitions.specs.Sets.{cell_of, same_cell, holds, SetValue, FamilyValue, IsSet, IsCellWithin, set_cells, set_side}
-use Rattle.definitions.specs.Hierarchies.{TreesValue, AreTreesOf, chain_of, deepest_at}
-use Rattle.definitions.specs.Values.{Limit, Agent, ProblemValue, IsProblem, column_count, capped_limits, market_of, market_agents, limits_of, stated_sets, list_at, demand_at}
+use Rattle.definitions.specs.Sets.{cell_of, holds, SetValue, IsSet, IsCellWithin, set_cells}
+use Rattle.definitions.specs.Hierarchies.{TreesValue, AreTreesOf}
+use Rattle.definitions.specs.Values.{Limit, Agent, ProblemValue, IsProblem, capped_limits, market_of, limits_of, stated_sets, list_at, demand_at}
 use Rattle.definitions.specs.Eating.{slot_cells}
-use Rattle.definitions.proofs.Members.{number_test, member_at, member_place}
+use Rattle.definitions.proofs.Members.{number_test, member_at}
 use Rattle.definitions.proofs.Families.{sets_of_problem, no_set, cells_of_set}
 use Rattle.definitions.proofs.Sums.{single}
 use Rattle.eating_laws.proofs.Full.{cells_at}
@@ -24,8 +21,8 @@ use Rattle.side_laws.proofs.Trees.{chain_holds, cell_chain_distinct}
 use Rattle.side_laws.proofs.ChainSums.{passes}
 use Rattle.side_laws.proofs.Rows.{stated_side, two_is_stated}
 use Rattle.eating.specs.Caps.{capped_count, caps_before}
-use Rattle.eating.specs.Holders.{chain_at, holders_in}
-use Rattle.eating.proofs.Capped.{one_place, cells_right, cap_found, cap_holds, IsCapAt}
+use Rattle.eating.specs.Holders.{chain_at}
+use Rattle.eating.proofs.Capped.{one_place, cells_left, cells_right, cap_found, cap_holds}
 use Rattle.eating.proofs.Counts.{capped_length, caps_room}
 
 -- set s stands in slot s - 1
@@ -44,11 +41,6 @@ slots_counted j (s ∷ chain) h =
       | inr (inl l) ↦ ap {B = ℕ} (λ b. cond b 1 0) (ne_eqb (s - 1) j (λ e. omega arith)) ∙ sym (ap {B = ℕ} (λ b. cond b 1 0) (ne_eqb (j + 1) s (λ e. omega arith)))
       | inr (inr l) ↦ ap {B = ℕ} (λ b. cond b 1 0) (ne_eqb (s - 1) j (λ e. omega arith)) ∙ sym (ap {B = ℕ} (λ b. cond b 1 0) (ne_eqb (j + 1) s (λ e. omega arith)))
     ]
-
-cells_before : (xs ys : List Limit) (x : ℕ) → x < length xs → cells_at (xs ++ ys) x ≡ cells_at xs x
-cells_before [] ys x l = absurd (omega arith)
-cells_before (s ∷ xs) ys zero l = refl
-cells_before (s ∷ xs) ys (suc x) l = cells_before xs ys x (omega arith)
 
 stated_cells : (sets : List SetValue) (j : ℕ) → j < length sets → cells_at (map (λ s. record { ceiling = s.ceiling; cells = s.cells }) sets) j ≡ (get_or sets j no_set).cells
 stated_cells [] j l = absurd (omega arith)
@@ -76,7 +68,7 @@ module _ (p : ProblemValue) (h : IsProblem p) where
       let many = sets_of_problem p h in
       let known : IsSet p.family (j + 1) = (omega arith, omega (arith, many)) in
       let place : j + 1 - 1 ≡ j = omega arith in
-      cells_before stated_limits (capped_limits 0 (market_of p).agents) j (omega (arith, l, stated_many)) ∙ stated_cells (stated_sets p) j (omega (arith, l, stated_count))
+      cells_left stated_limits (capped_limits 0 (market_of p).agents) j (omega (arith, l, stated_many)) ∙ stated_cells (stated_sets p) j (omega (arith, l, stated_count))
       ∙ ap (λ (s : SetValue). s.cells) (get_or-take p.stated p.family.sets j no_set l)
       ∙ ap (λ n. (get_or p.family.sets n no_set).cells) (sym place)
       ∙ sym (cells_of_set p.family (j + 1) known no_set)

@@ -1,11 +1,11 @@
 -- What eating begins with.
-use Rattle.std.proofs.Common.{◌≡◌, ℕ, ◌+◌, ◌*◌, ◌<◌, ◌≤◌, ◌++◌, List, Option, Some, length, map, get_or, replicate, take, drop, refl, ap, sym, ◌∙◌, arith, inl, inr, suc, zero, mul_comm, []}
+use Rattle.std.proofs.Common.{◌≡◌, ℕ, ◌+◌, ◌*◌, ◌<◌, ◌≤◌, ◌++◌, List, Option, length, map, get_or, replicate, take, drop, ap, sym, ◌∙◌, arith, inl, inr, suc, zero, mul_comm, []}
 use Rattle.std.specs.Prelude.{slice_index, ◌/◌, ◌%◌}
 use Rattle.std.specs.Option.{option_map_or}
 use Rattle.std.proofs.Math.Nat.{div-add-mod, mod-lt}
 use Rattle.std.proofs.lemmas.Bool.{cases_lt}
 use Rattle.std.proofs.lemmas.Option.{slice_get-get_or}
-use Rattle.std.proofs.lemmas.List.{get_or-map, get_or-replicate, get_or_past, length-replicate, take_at, length-append}
+use Rattle.std.proofs.lemmas.List.{get_or-map, get_or-replicate, get_or_past, length-replicate, take_at}
 use Rattle.definitions.specs.Values.{Limit, Market}
 use Rattle.definitions.specs.Eating.{slot_ceiling}
 use Rattle.eating_laws.proofs.Fine.{below_from_product}

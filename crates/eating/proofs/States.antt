@@ -1,21 +1,20 @@
 -- The state from moment to moment, as the code has it.
-use Rattle.std.proofs.Common.{◌≡◌, ◌≢◌, ℕ, suc, zero, ◌+◌, ◌-◌, ◌*◌, ◌<◌, ◌≤◌, List, length, get_or, replicate, ap, sym, ◌∙◌, subst, arith, inl, inr, mul_comm, mul_assoc}
-use Rattle.std.specs.Prelude.{slice_index, ◌/◌, ◌==◌, ◌⊎◌, ◌^◌, count_by}
-use Rattle.std.specs.Int.{◌∣◌}
+use Rattle.std.proofs.Common.{◌≡◌, ℕ, ◌+◌, ◌*◌, ◌<◌, ◌≤◌, List, length, get_or, ap, sym, ◌∙◌, subst, arith, inl, inr, mul_comm, mul_assoc}
+use Rattle.std.specs.Prelude.{slice_index, ◌/◌, ◌==◌, ◌^◌, count_by}
 use Rattle.std.proofs.Math.Nat.{mul-div_cancel', eq_of_mul-eq-mul_right, mul-lt-mul_of_pos_left}
-use Rattle.std.proofs.lemmas.Bool.{cases_order, cases_lt}
+use Rattle.std.proofs.lemmas.Bool.{cases_lt}
 use Rattle.std.proofs.lemmas.List.{length-replicate, get_or-replicate, get_or_past}
 use Rattle.definitions.specs.Values.{Market}
 use Rattle.definitions.specs.Eating.{eaten_by, moment_at, slot_cells, slot_ceiling, IsLowestTerms}
 use Rattle.eating_laws.proofs.Right.{IsRightBelow}
-use Rattle.frac128.specs.Lcm.{IsLcm, IsBeyond}
+use Rattle.frac128.specs.Lcm.{IsBeyond}
 use Rattle.frac128.specs.Fraction.{numerator, denominator}
 use Rattle.frac128.specs.declared.fractions.Fraction.{Fraction}
 use Rattle.eating.specs.declared.progress.Progress.{Progress}
-use Rattle.eating.specs.Plan.{LineValue, AreLines, AreLinesOf, IsSmall}
+use Rattle.eating.specs.Plan.{LineValue, AreLinesOf, IsSmall}
 use Rattle.eating.specs.Seats.{AreSoFar, AreSeats}
-use Rattle.eating.specs.Steps.{IsAdvanced, AreAdvanced, IsEarliest, IsWithin}
-use Rattle.eating.specs.Runs.{IsAt, IsStart, IsRunOf, IsSeated, IsStepTo, IsTooFineIn}
+use Rattle.eating.specs.Steps.{AreAdvanced, IsEarliest, IsWithin}
+use Rattle.eating.specs.Runs.{IsAt, IsRunOf, IsSeated, IsStepTo, IsTooFineIn}
 use Rattle.eating.proofs.Stepping.{step_right, step_left, step_lowest, step_full}
 use Rattle.eating.proofs.Running.{slot_small, at_within, seated, so_far_after, seats_so_far, first_so_far, open_falls}
 use Rattle.eating.proofs.Rounds.{first_right, first_rests, first_lowest, beyond_too_fine}
@@ -97,7 +96,6 @@ module _ (market : Market) (lines : List LineValue) where
 
   module _ (old mid : Progress) (m : Fraction) (h : IsAt market lines old) (next : IsEarliest old.unit old.at (length old.moments.items) old.moments.items old.rests.items old.speeds.items m)
       (step : IsStepTo old mid m) where
-
     one : step.factor * old.unit ≡ mid.unit
     one = sym step.unit
 

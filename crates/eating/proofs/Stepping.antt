@@ -1,8 +1,8 @@
 -- The step to the earliest moment at which an open limit is full.
-use Rattle.std.proofs.Common.{◌≡◌, ◌≢◌, ℕ, suc, zero, ◌+◌, ◌-◌, ◌*◌, ◌<◌, ◌≤◌, List, length, map, refl, ap, sym, ◌∙◌, subst, inl, inr, arith, mul_comm, mul_assoc, mul-le-mul_left}
+use Rattle.std.proofs.Common.{◌≡◌, ℕ, suc, zero, ◌+◌, ◌-◌, ◌*◌, ◌<◌, ◌≤◌, List, length, map, refl, ap, sym, ◌∙◌, subst, inl, inr, arith, mul_comm, mul_assoc, mul-le-mul_left}
 use Rattle.std.specs.Prelude.{◌/◌, ◌⊎◌, ◌^◌, slice_index}
 use Rattle.std.specs.Int.{◌∣◌}
-use Rattle.std.proofs.Math.Nat.{mul_left_comm, mul-add, eq_of_mul-eq-mul_left, lt_of_mul-lt-mul_left, mul-div_cancel', mul-lt-mul_of_pos_left, le_of_dvd, dvd-mul_right, dvd-mul_left, mul-pos, dvd-zero}
+use Rattle.std.proofs.Math.Nat.{mul_left_comm, eq_of_mul-eq-mul_left, mul-div_cancel', le_of_dvd, dvd-mul_right, dvd-mul_left, mul-pos, dvd-zero}
 use Rattle.std.proofs.lemmas.Bool.{cases_lt, cases_order}
 use Rattle.std.proofs.lemmas.List.{get_or_past, length-map}
 use Rattle.definitions.specs.Values.{Market}
@@ -10,10 +10,10 @@ use Rattle.definitions.specs.Eating.{eaten_by, moment_at, slot_cells, slot_ceili
 use Rattle.eating_laws.proofs.Full.{moments_scaled}
 use Rattle.eating_laws.proofs.Right.{IsRightBelow, right_partial}
 use Rattle.frac128.specs.Lcm.{IsLcm}
-use Rattle.frac128.specs.Measure.{IsLowest, multiple_of_lowest, factor_positive}
+use Rattle.frac128.specs.Measure.{multiple_of_lowest, factor_positive}
 use Rattle.frac128.specs.Fraction.{numerator, denominator}
 use Rattle.frac128.specs.declared.fractions.Fraction.{Fraction}
-use Rattle.eating.specs.Steps.{IsReady, IsAdvanced, AreAdvanced, IsKey, IsEarliest}
+use Rattle.eating.specs.Steps.{IsReady, IsAdvanced, AreAdvanced, IsEarliest}
 use Rattle.eating.proofs.Between.{SlotAt, some_left, next_right, next_left, ready_scale}
 use Rattle.eating.proofs.Between.SlotAt.{early, filled, still}
 use Rattle.eating.proofs.Going.{new_positive, factor_some, moment_below, slot_full}

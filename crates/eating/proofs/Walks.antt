@@ -1,5 +1,5 @@
 -- The way up from a cell's deepest set.
-use Rattle.std.proofs.Common.{◌≡◌, ℕ, ◌-◌, ◌<◌, ◌++◌, ◌∷◌, [], List, Option, Some, None, length, map, ap, sym, ◌∙◌, subst, arith}
+use Rattle.std.proofs.Common.{◌≡◌, ℕ, ◌-◌, ◌<◌, ◌++◌, ◌∷◌, List, Option, Some, None, length, map, ap, sym, ◌∙◌, arith}
 use Rattle.std.proofs.lemmas.List.{append-nil}
 use Rattle.definitions.specs.Sets.{FamilyValue, IsFamily, IsSet}
 use Rattle.definitions.specs.Hierarchies.{TreesValue, AreTreesOf, chain_of, parent_at}

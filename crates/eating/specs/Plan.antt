@@ -2,7 +2,7 @@
 use Rattle.std.specs.Prelude.{◌≡◌, ℕ, ◌-◌, ◌<◌, ◌≤◌, ◌==◌, min, List, [], ◌∷◌, length, All, count_by, sum_by, slice_get, slice_index, unwrap_or, Some, nat_le, if◌then◌else◌}
 use Rattle.definitions.specs.Values.{Agent, Market}
 use Rattle.definitions.specs.Eating.{moment_at, demand_sum}
-use Rattle.eating_laws.proofs.Holders.{IsHolders, least_of}
+use Rattle.eating_laws.proofs.Holders.{IsHolders}
 
 -- an agent's demand, its list, and for each place the slots of the limits that hold the cell there
 pub record LineValue : Type 0 where

@@ -1,7 +1,7 @@
 -- The steps of eating from one moment at which limits are full to the next.
 use Rattle.std.specs.Prelude.{◌≡◌, ◌≢◌, ℕ, ◌+◌, ◌*◌, ◌<◌, ◌≤◌, ◌^◌, List, length, slice_index, ◌⊎◌, Option, Some, None, MatchOption}
 use Rattle.definitions.specs.Values.{Market}
-use Rattle.definitions.specs.Eating.{eaten_by, moment_at, slot_cells, slot_ceiling, IsLowestTerms}
+use Rattle.definitions.specs.Eating.{eaten_by, moment_at, slot_cells, slot_ceiling}
 use Rattle.eating_laws.proofs.Right.{IsRightBelow}
 use Rattle.eating_laws.proofs.Sums.{speed_of}
 use Rattle.frac128.specs.Fraction.{numerator, denominator}

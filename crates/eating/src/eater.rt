@@ -73,11 +73,17 @@ impl Eater {
         } = self;
         progress.eat(&lines)?;
         let Progress {
-            unit, mut moments, ..
+            unit,
+            mut moments,
+            ..
         } = progress;
         serve(&lines, &moments, unit, columns as usize, &mut units);
         serve_caps(&lines, &moments, unit, stated, columns as usize, &mut caps);
         moments.truncate(stated);
-        Ok(Eaten::new(moments, Scaled::new(unit, lines.len() as u32, columns, units), caps))
+        Ok(Eaten::new(
+            moments,
+            Scaled::new(unit, lines.len() as u32, columns, units),
+            caps,
+        ))
     }
 }

@@ -203,7 +203,13 @@ impl Progress {
         ensures { IsSeated lines.now self.old self.new }
     {
         self.speeds.fill(0);
-        seat_agents(lines, &self.moments, self.unit, &mut self.places, &mut self.speeds);
+        seat_agents(
+            lines,
+            &self.moments,
+            self.unit,
+            &mut self.places,
+            &mut self.speeds,
+        );
     }
 
     /// Goes on to a moment, and notes the limits that are full then.

@@ -1,4 +1,4 @@
-use Rattle.std.proofs.Common.{◌≡◌, ◌<◌, ◌+◌, arith, take, ap, ◌∙◌, sym, length}
+use Rattle.std.proofs.Common.{◌≡◌, ◌<◌, ◌+◌, arith, take, ap, ◌∙◌, length}
 use Rattle.std.proofs.lemmas.List.{take_all}
 use Rattle.definitions.specs.Values.{market_of}
 use Rattle.eating_laws.proofs.Limits.{agent_count}

@@ -1,7 +1,7 @@
-use Rattle.std.proofs.Common.{◌≡◌, ◌+◌, ◌<◌, ◌++◌, ◌∷◌, [], List, ℕ, arith, length, map, take, get_or, ap, sym, ◌∙◌}
+use Rattle.std.proofs.Common.{◌≡◌, ◌<◌, ◌++◌, ◌∷◌, [], arith, length, map, take, get_or, ap, sym, ◌∙◌}
 use Rattle.std.proofs.lemmas.List.{take_more, take_all, map-append}
 use Rattle.definitions.specs.Values.{list_at}
-use Rattle.eating.specs.Holders.{made_holders, holders_in}
+use Rattle.eating.specs.Holders.{made_holders}
 use Rattle.eating.proofs.Counts.{slots_few}
 use Rattle.eating.proofs.Lines.{line_right, line_slots, made_more, made_none}
 use Rattle.eating.proofs.plan.line_of.Goals as goal

@@ -1,10 +1,10 @@
-use Rattle.std.proofs.Common.{◌≡◌, ◌+◌, ◌<◌, ◌++◌, ◌∷◌, [], List, ℕ, Some, arith, length, take, ap, sym, ◌∙◌, subst}
+use Rattle.std.proofs.Common.{◌≡◌, ◌+◌, ◌<◌, Some, arith, length, ap, sym, ◌∙◌, subst}
 use Rattle.std.specs.Prelude.{slice_get}
 use Rattle.std.proofs.lemmas.List.{length_push}
 use Rattle.std.proofs.lemmas.Option.{same_Some}
 use Rattle.definitions.specs.Values.{Agent, demand_at, list_at, market_of, limits_of}
 use Rattle.definitions.proofs.Problems.{agent_of}
-use Rattle.eating.specs.Plan.{LineValue, IsLine, IsLineOf}
+use Rattle.eating.specs.Plan.{IsLine, IsLineOf}
 use Rattle.eating.proofs.Counts.{caps_more, caps_room, slots_few}
 use Rattle.eating.proofs.Slots.{limits_many}
 use Rattle.eating.proofs.Lines.{each_push, lines_right}

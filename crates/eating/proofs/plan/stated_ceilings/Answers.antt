@@ -1,8 +1,6 @@
-use Rattle.std.proofs.Common.{arith, rules, ◌≡◌, ◌<◌, ◌≤◌, ◌-◌, ◌+◌, ◌∙◌, ◌∷◌, ◌++◌, [], ap, sym, map, take, length, get_or, Some, subst}
+use Rattle.std.proofs.Common.{arith, rules, ◌≡◌, ◌-◌, ◌∙◌, ◌∷◌, ◌++◌, [], ap, length, Some}
 use Rattle.std.specs.Prelude.{slice_get}
-use Rattle.std.proofs.lemmas.List.{take_more, map-append}
-use Rattle.std.proofs.lemmas.Option.{get_or_from_slice_get, slice_get_within}
-use Rattle.definitions.specs.Sets.{SetValue, FamilyValue}
+use Rattle.definitions.specs.Sets.{FamilyValue}
 use Rattle.definitions.proofs.Families.{sets_of_problem}
 use Rattle.eating.proofs.Counts.{ceiling_more}
 use Rattle.eating.proofs.plan.stated_ceilings.Goals as goal

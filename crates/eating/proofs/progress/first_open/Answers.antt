@@ -1,6 +1,5 @@
-use Rattle.std.proofs.Common.{◌≡◌, ◌<◌, arith, length, ap, ◌∙◌, subst, sym}
+use Rattle.std.proofs.Common.{◌<◌, arith, length, ap, ◌∙◌, subst}
 use Rattle.eating_laws.proofs.Holders.{least_of}
-use Rattle.eating.specs.Plan.{holders_at}
 use Rattle.eating.proofs.Places.{next_place, seat_here, place_room}
 use Rattle.eating.proofs.progress.first_open.Goals as goal
 

@@ -1,4 +1,4 @@
-use Rattle.std.proofs.Common.{◌≡◌, ◌+◌, ◌<◌, refl, arith, length, get_or, slice_index, ap, sym, ◌∙◌, subst, set, take}
+use Rattle.std.proofs.Common.{refl, arith, length, slice_index, ap, sym, ◌∙◌, subst, take}
 use Rattle.std.proofs.lemmas.Option.{slice_get_read, slice_get_within}
 use Rattle.std.proofs.lemmas.List.{take_all}
 use Rattle.eating.specs.Seats.{IsSoFar, seat_speed}
@@ -46,7 +46,6 @@ add_speed-requires-clause-room c j =
 pub loop-agent-preserved : goal.loop-agent-preserved
 loop-agent-preserved c =
     let is = slice_get_read c.args.lines.now (length c.args.lines.now) c.loop-agent.agent c.index-lines-agent.result (omega arith) c.loop-agent-test.true c.index-lines-agent.is in
-
     record {
       done = seat_done c.args.unit c.args.moments.now c.args.lines.now c.loop-agent.places c.loop-agent.agent c.index-lines-agent.result c.first_open-place.result is (omega (arith, c.loop-agent-test.true, c.requires.so_far.many, c.loop-agent.auto.places)) c.first_open-place.ensures c.loop-agent.invariant.done;
       rest = kept_more c.args.places.now c.loop-agent.places c.loop-agent.agent c.first_open-place.result c.loop-agent.invariant.rest;

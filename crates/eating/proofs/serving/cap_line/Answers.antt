@@ -1,9 +1,8 @@
 use Rattle.std.proofs.Common.{◌≡◌, ◌+◌, ◌<◌, arith, length, get_or, ap, sym, ◌∙◌, subst, set, take, drop}
-use Rattle.std.proofs.lemmas.List.{take_all}
 use Rattle.definitions.specs.Eating.{full_at}
 use Rattle.eating.specs.Plan.{least_from}
 use Rattle.eating.specs.Serving.{IsRow}
-use Rattle.eating.proofs.Rows.{row_none, row_more, row_all, line_capped, line_inside, same_column}
+use Rattle.eating.proofs.Rows.{row_more, row_all, line_capped, line_inside, same_column}
 use Rattle.eating.proofs.serving.cap_line.Goals as goal
 
 pub loop-place-preserved : goal.loop-place-preserved

@@ -1,11 +1,8 @@
-use Rattle.std.proofs.Common.{◌≡◌, ◌+◌, ◌*◌, ◌<◌, ◌≤◌, arith, length, get_or, ap, sym, ◌∙◌, Some}
-use Rattle.std.specs.Prelude.{slice_get}
+use Rattle.std.proofs.Common.{◌+◌, ◌*◌, ◌≤◌, arith, length}
 use Rattle.std.proofs.Math.Nat.{mul-le-mul_right, add-mul}
 use Rattle.std.proofs.lemmas.Option.{slice_get_read}
-use Rattle.std.proofs.lemmas.List.Sums.{get_or-le-sum_by}
 use Rattle.definitions.specs.Eating.{share}
 use Rattle.eating_laws.proofs.Shares.{share_off}
-use Rattle.eating.specs.Plan.{LineValue}
 use Rattle.eating.proofs.Rows.{servable, rows_done, rows_rest, line_demand, list_within}
 use Rattle.eating.proofs.serving.serve.Goals as goal
 

@@ -1,13 +1,13 @@
-use Rattle.std.proofs.Common.{◌≡◌, ◌+◌, ◌*◌, ◌<◌, ◌≤◌, ◌++◌, ℕ, List, refl, arith, length, take, drop, ap, sym, ◌∙◌, subst}
+use Rattle.std.proofs.Common.{◌≡◌, ◌*◌, refl, arith, length, take, ap, sym, ◌∙◌, subst}
 use Rattle.std.proofs.lemmas.Result.{err_from_is_err_and}
 use Rattle.definitions.specs.Sets.{IsScaledMatrix, ScaledValue}
 use Rattle.definitions.specs.Values.{market_of}
 use Rattle.eating.specs.Answers.{IsEatenBy}
-use Rattle.eating.specs.Eaten.{EatenValue, IsEatenValue}
+use Rattle.eating.specs.Eaten.{IsEatenValue}
 use Rattle.eating.specs.Plan.{AreLines}
 use Rattle.eating.specs.Runs.{IsRunOf}
 use Rattle.eating.specs.Serving.{AreListsWithin}
-use Rattle.eating.proofs.Handing.{too_fine_at, served_read, capped_read, eater_run, eater_lists, eater_many, eater_cells, handed, handed_matrix, handed_value, handed_eaten}
+use Rattle.eating.proofs.Handing.{too_fine_at, served_read, capped_read, eater_run, eater_lists, eater_many, eater_cells, handed_matrix, handed_value, handed_eaten}
 use Rattle.eating.proofs.OneAnswer.{same_matrix, same_value}
 use Rattle.eating.proofs.Starting.{whole_of}
 use Rattle.eating.proofs.eater.Eater.finish.Goals as goal
@@ -109,9 +109,10 @@ returns-clause-eaten c p h eater =
     let agents : c.len.result ≡ length s.lines.items = omega (arith, c.len.ensures, s.lines.ok) in
     let units = whole_of c.serve.new.units s.units.items s.units.len many (omega (arith, s.units.ok)) in
     let caps = whole_of c.serve_caps.new.caps s.caps.items s.caps.len many_caps (omega (arith, s.caps.ok)) in
-    let matrix : ScaledValue = record { denominator = c.eat.new.self.unit; agents = length s.lines.items; columns = s.columns; units = c.serve.new.units } in
-    (c.eat.new.self.moments.items,
-     subst (IsEatenBy p c.eat.new.self.moments.items)
-     (sym (c.new-2.ensures ∙ same_value _ (record { moments = take s.stated c.eat.new.self.moments.items; shares = matrix; caps = c.serve_caps.new.caps }) c.truncate.ensures.items (c.new.ensures ∙ same_matrix _ matrix refl agents refl units) caps))
-     (handed_eaten p h s eater c.eat.new.self.unit c.eat.new.self.moments.items (c.in_ok-eat.ensures.table (market_of p) run) c.in_ok-eat.ensures.lowest c.in_ok-eat.ensures.fine
-     c.serve.new.units c.serve_caps.new.caps many many_caps served capped))
+    let matrix : ScaledValue = record { denominator = c.eat.new.self.unit; agents = length s.lines.items; columns = s.columns; units = c.serve.new.units } in (
+      c.eat.new.self.moments.items,
+      subst (IsEatenBy p c.eat.new.self.moments.items)
+          (sym (c.new-2.ensures ∙ same_value _ (record { moments = take s.stated c.eat.new.self.moments.items; shares = matrix; caps = c.serve_caps.new.caps }) c.truncate.ensures.items (c.new.ensures ∙ same_matrix _ matrix refl agents refl units) caps))
+          (handed_eaten p h s eater c.eat.new.self.unit c.eat.new.self.moments.items (c.in_ok-eat.ensures.table (market_of p) run) c.in_ok-eat.ensures.lowest c.in_ok-eat.ensures.fine
+          c.serve.new.units c.serve_caps.new.caps many many_caps served capped),
+    )

@@ -1,4 +1,4 @@
-use Rattle.std.proofs.Common.{◌≡◌, ◌<◌, arith, length, ap, sym, ◌∙◌, get_or}
+use Rattle.std.proofs.Common.{◌<◌, arith, length, ap, ◌∙◌, get_or}
 use Rattle.std.proofs.lemmas.List.{length-set, get_or_read}
 use Rattle.eating.proofs.Advancing.{advanced_read, advanced_more, kept_more}
 use Rattle.eating.proofs.progress.Progress.advance.Goals as goal

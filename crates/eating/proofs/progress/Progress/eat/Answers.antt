@@ -1,4 +1,3 @@
-use Rattle.std.proofs.Common.{◌≡◌, ◌<◌, arith, length, ap, sym, ◌∙◌}
 use Rattle.std.proofs.lemmas.Result.{err_from_is_err_and}
 use Rattle.eating.proofs.Running.{at_within, at_end}
 use Rattle.eating.proofs.States.{start_within, start_so_far, start_at, next_at, next_so_far, next_fewer, step_beyond}

@@ -1,9 +1,8 @@
-use Rattle.std.proofs.Common.{◌≡◌, ◌+◌, ◌-◌, ◌*◌, ◌<◌, ◌≤◌, arith, length, ap, sym, ◌∙◌, subst, mul_comm, mul_assoc}
+use Rattle.std.proofs.Common.{◌≡◌, ◌-◌, ◌*◌, arith, ap, sym, ◌∙◌, subst}
 use Rattle.std.specs.Prelude.{◌/◌}
-use Rattle.std.proofs.Math.Nat.{mul-div_cancel'}
 use Rattle.frac128.specs.Lcm.{IsLcm}
 use Rattle.frac128.specs.Fraction.{numerator, denominator}
-use Rattle.eating.proofs.Going.{IsGoing, going}
+use Rattle.eating.proofs.Going.{going}
 use Rattle.eating.proofs.progress.Progress.go_to.Goals as goal
 
 pub overflow_mul-at : goal.overflow_mul-at

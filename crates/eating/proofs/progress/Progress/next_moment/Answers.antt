@@ -1,7 +1,7 @@
-use Rattle.std.proofs.Common.{◌≡◌, ◌≢◌, ◌<◌, arith, length, ap, sym, ◌∙◌, subst, get_or}
-use Rattle.std.specs.Prelude.{MatchOption, ◌+◌, ◌*◌, ◌≤◌}
+use Rattle.std.proofs.Common.{◌<◌, arith, length, sym, ◌∙◌, subst}
+use Rattle.std.specs.Prelude.{◌+◌}
 use Rattle.std.proofs.lemmas.List.{get_or_read}
-use Rattle.eating.specs.Steps.{IsNext, IsKey}
+use Rattle.eating.specs.Steps.{IsNext}
 use Rattle.eating.proofs.Earliest.{next_full, next_open, key_read}
 use Rattle.eating.proofs.progress.Progress.next_moment.Goals as goal
 use Rattle.eating.proofs.progress.Progress.next_moment.Goals.{then-index-self, else-index-self}

@@ -19,19 +19,20 @@ set_row-filled row number s parent is = let many : length row ≡ 7 = ap length 
 after : (a b c : List ℕ) → (a ++ b) ++ c ≡ a ++ (b ++ c)
 after a b c = simp append_assoc
 
--- one more record after those of n sets
-pub rows-more : (f : FamilyValue) (t : TreesValue) (n m j : ℕ) (start mid next : List ℕ) → 1 + n ≡ j → m ≡ n + 1
-    → mid ≡ start ++ rows_text (map (numbered_row f t) (range_with_len 1 n))
-    → next ≡ mid ++ rows_text (numbered_row f t j ∷ [])
-    → next ≡ start ++ rows_text (map (numbered_row f t) (range_with_len 1 m))
-rows-more f t n m j start mid next at count so more =
-    let rows : List Row = map (numbered_row f t) (range_with_len 1 n) in
-    let last : List Row = numbered_row f t j ∷ [] in
-    let longer : rows_text (map (numbered_row f t) (range_with_len 1 (n + 1))) ≡ rows_text rows ++ rows_text last =
-    ap rows_text (map-range_with_len_more (numbered_row f t) 1 n j at) ∙ rows_text-append rows last in
-    more ∙ ap (λ (b : List ℕ). b ++ rows_text last) so ∙ after start (rows_text rows) (rows_text last)
-    ∙ ap (λ (b : List ℕ). start ++ b) (sym longer)
-    ∙ ap (λ (k : ℕ). start ++ rows_text (map (numbered_row f t) (range_with_len 1 k))) (sym count)
+-- records after records
+pub rows-then : (rows more : List Row) (start mid next : List ℕ) → mid ≡ start ++ rows_text rows → next ≡ mid ++ rows_text more → next ≡ start ++ rows_text (rows ++ more)
+rows-then rows more start mid next so then =
+    then ∙ ap (λ (b : List ℕ). b ++ rows_text more) so ∙ after start (rows_text rows) (rows_text more) ∙ ap (λ (b : List ℕ). start ++ b) (sym (rows_text-append rows more))
+
+-- one more record after n that go by number, from a on
+pub rows-more : (row : ℕ → Row) (a n m j : ℕ) (start mid next : List ℕ) → a + n ≡ j → m ≡ n + 1
+    → mid ≡ start ++ rows_text (map row (range_with_len a n))
+    → next ≡ mid ++ rows_text (row j ∷ [])
+    → next ≡ start ++ rows_text (map row (range_with_len a m))
+rows-more row a n m j start mid next at count so more =
+    rows-then (map row (range_with_len a n)) (row j ∷ []) start mid next so more
+    ∙ ap (λ (rows : List Row). start ++ rows_text rows) (sym (map-range_with_len_more row a n j at))
+    ∙ ap (λ (k : ℕ). start ++ rows_text (map row (range_with_len a k))) (sym count)
 
 -- the records of the stated sets, and the one at the end
 pub sets_text-parts : (p : ProblemValue) (f : FamilyValue) (t : TreesValue) (n : ℕ) (b0 b1 b2 : List ℕ) → f ≡ p.family → n ≡ p.stated → b0 ≡ []

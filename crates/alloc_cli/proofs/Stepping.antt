@@ -3,10 +3,14 @@ use Rattle.std.proofs.Common.{◌≡◌, ℕ, List, Option, Result, Ok, Err, inr
 use Rattle.device_core.specs.Told.{Appended}
 use Rattle.device_core.specs.declared.faults.SinkFault.{SinkFault}
 use Rattle.device_core.specs.declared.faults.SinkFault.TheVariants as sink
+use Rattle.definitions.specs.Lotteries.{LotteryValue}
+use Rattle.lottery_file.specs.Written.{lottery_text}
+use Rattle.alloc_steps.specs.Writing.{WritesLotteryOrNothing}
 use Rattle.alloc_cli.specs.declared.causes.Cause.{Cause}
 use Rattle.alloc_cli.specs.declared.causes.Cause.TheVariants as causes
 use Rattle.alloc_cli.specs.Causes.{cause_result}
 use Rattle.alloc_cli.specs.Answers.{Answer, refuse, text, Gives}
+use Rattle.alloc_cli.specs.Decomposing.{Writes}
 use Rattle.alloc_cli.specs.Runs.{Stepped, Stopped, Front}
 use Rattle.alloc_cli.specs.Steps.{Checked, Faulted}
 
@@ -44,3 +48,10 @@ stepped_in written flushed inner outer old new (Err causes.WriteFault) into s = 
 stepped_in written flushed inner outer old new (Err causes.NoMemory) into (inl u) = inl u
 stepped_in written flushed inner outer old new (Err causes.NoMemory) into (inr f) = inr (front_in written inner outer old new into f)
 stepped_in written flushed inner outer old new (Err cause) into s = record { kind = s.kind; due = into (refuse cause) s.due; untouched = s.untouched }
+
+-- a writer that picks the lottery whose text it writes
+pub stepped-lottery : {K T : Type 0} (written : K → Option (List ℕ)) (flushed : K → ℕ) (property : LotteryValue → Type 0) (old new : K) (r : Result T SinkFault) → WritesLotteryOrNothing written property old new r → Stepped written flushed (Writes property) old new (cause_result r)
+stepped-lottery written flushed property old new (Ok v) w = record { whole = lottery_text w.lottery; allowed = record { lottery = w.lottery; plain = w.plain; has = w.has; is = refl }; bytes = w.bytes }
+stepped-lottery written flushed property old new (Err sink.Failed) w = record { whole = lottery_text w.lottery; allowed = record { lottery = w.lottery; plain = w.plain; has = w.has; is = refl }; bytes = w.bytes }
+stepped-lottery written flushed property old new (Err sink.NoMemory) (inl same) = inl (record { bytes = ap written same; mark = ap flushed same })
+stepped-lottery written flushed property old new (Err sink.NoMemory) (inr w) = inr (record { whole = lottery_text w.lottery; allowed = record { lottery = w.lottery; plain = w.plain; has = w.has; is = refl }; bytes = w.bytes })

@@ -7,10 +7,13 @@ use Rattle.definitions.specs.Hierarchies.{TreesValue, AreTreesOf}
 use Rattle.definitions.specs.Lotteries.{LotteryValue}
 use Rattle.definitions.specs.Sets.{FamilyValue}
 use Rattle.definitions.specs.Values.{ProblemValue}
+use Rattle.eating.specs.Answers.{IsEaten, IsTooFineAt}
+use Rattle.eating.specs.Eaten.{EatenValue}
 use Rattle.lottery_file.specs.Lotteries.{TextReadsAs, TextHasFault}
 use Rattle.lottery_file.specs.declared.faults.LotteryFault.{LotteryFault}
 use Rattle.alloc_cli.specs.Picks.{picked_text}
 use Rattle.alloc_cli.specs.StatedSets.{sets_text}
+use Rattle.alloc_cli.specs.Tables.{eaten_text}
 use Rattle.alloc_cli.specs.declared.causes.Cause.{Cause}
 use Rattle.alloc_cli.specs.declared.causes.Cause.TheVariants as causes
 
@@ -81,3 +84,24 @@ StatedAnswers p = Gives crossing_cause (CrossesOrTrees p.family) (λ t answer. a
 -- `sets PREFS QUOTAS`
 abbrev pub SetsAnswers : List ℕ → List ℕ → Answer → Type 0
 SetsAnswers prefs quotas = Gives input_cause (ProblemTextReads prefs quotas) StatedAnswers
+
+-- this is eaten in a problem, or this is the denominator of its first table that is too fine
+abbrev pub EatsOrTooFine : ProblemValue → Result EatenValue ℕ → Type 0
+EatsOrTooFine p (Ok v) = IsEaten p v
+EatsOrTooFine p (Err denominator) = IsTooFineAt p denominator
+
+-- the cause of that denominator
+abbrev pub too_fine_cause : ℕ → Cause
+too_fine_cause denominator = causes.TooFine denominator
+
+-- the text of the eating table, where no table up to a moment is too fine
+abbrev pub EatenAnswers : ProblemValue → Answer → Type 0
+EatenAnswers p = Gives too_fine_cause (EatsOrTooFine p) (λ v answer. answer ≡ text (eaten_text p v))
+
+-- the same, where no two sets of one side cross
+abbrev pub TabledAnswers : ProblemValue → Answer → Type 0
+TabledAnswers p = Gives crossing_cause (CrossesOrTrees p.family) (λ t. EatenAnswers p)
+
+-- `table PREFS QUOTAS`
+abbrev pub TableAnswers : List ℕ → List ℕ → Answer → Type 0
+TableAnswers prefs quotas = Gives input_cause (ProblemTextReads prefs quotas) TabledAnswers

@@ -4,7 +4,9 @@ pub mod Parts
 pub mod Words
 pub mod Picks
 pub mod StatedSets
+pub mod Tables
 pub mod Answers
+pub mod Decomposing
 pub mod Outcomes
 pub mod Runs
 pub mod Complete
@@ -12,3 +14,4 @@ pub mod Steps
 pub mod Finish
 pub mod Load
 pub mod Top
+pub mod Headline

@@ -5,7 +5,8 @@ use Rattle.alloc_cli.specs.declared.causes.Cause.{Cause}
 use Rattle.alloc_cli.specs.declared.causes.Cause.TheVariants as causes
 use Rattle.alloc_cli.specs.declared.words.Command.{Command}
 use Rattle.alloc_cli.specs.declared.words.Command.TheVariants as commands
-use Rattle.alloc_cli.specs.Answers.{Answer, refuse, Then, PickAnswers, SetsAnswers}
+use Rattle.alloc_cli.specs.Answers.{Answer, refuse, Then, PickAnswers, SetsAnswers, TableAnswers}
+use Rattle.alloc_cli.specs.Decomposing.{DecomposeAnswers}
 
 -- the most bytes of a file
 abbrev pub limit : ℕ
@@ -26,6 +27,10 @@ Answers (commands.Pick ticket) (bytes ∷ []) answer = PickAnswers ticket bytes 
 Answers (commands.Pick ticket) given answer = ⊥
 Answers commands.Sets (prefs ∷ quotas ∷ []) answer = SetsAnswers prefs quotas answer
 Answers commands.Sets given answer = ⊥
+Answers commands.Table (prefs ∷ quotas ∷ []) answer = TableAnswers prefs quotas answer
+Answers commands.Table given answer = ⊥
+Answers commands.Decompose (matrix ∷ quotas ∷ []) answer = DecomposeAnswers matrix quotas answer
+Answers commands.Decompose given answer = ⊥
 
 -- what a command answers
 abbrev pub Outcome : Command → List (List ℕ) → Answer → Type 0

@@ -11,6 +11,8 @@ abbrev pub form_of_two : (name second : List ℕ) → Option Command
 form_of_two name second =
     if bytes_eq name (codes "pick") then option_map (λ ticket. commands.Pick ticket) (count_of second)
     else if bytes_eq name (codes "sets") then Some commands.Sets
+    else if bytes_eq name (codes "table") then Some commands.Table
+    else if bytes_eq name (codes "decompose") then Some commands.Decompose
     else None
 
 -- the command that the words are a form of
@@ -22,3 +24,5 @@ command_of _ = None
 abbrev pub file_count : Command → ℕ
 file_count (commands.Pick _) = 1
 file_count commands.Sets = 2
+file_count commands.Table = 2
+file_count commands.Decompose = 2

@@ -1,13 +1,14 @@
 // A command with its files: they are loaded, measured and handed to the command's step.
-ghost use Rattle.std.specs.Prelude.{◌≡◌, ◌+◌, ◌≤◌, ◌<◌, map, length, string_bytes};
+ghost use Rattle.std.specs.Prelude.{◌≡◌, ◌+◌, ◌≤◌, ◌<◌, map, length, string_bytes, All};
 ghost use Rattle.alloc_cli.specs.Load.{bytes_of, LoadsCount};
-ghost use Rattle.alloc_cli.specs.Outcomes.{Answers, Outcome};
+ghost use Rattle.alloc_cli.specs.Outcomes.{limit, Answers, Outcome};
 ghost use Rattle.alloc_cli.specs.Runs.{Stepped};
 ghost use Rattle.alloc_cli.specs.Steps.{OutCounts, ShortCounts, Measures};
 ghost use Rattle.alloc_cli.specs.Words.{file_count};
 ghost use Rattle.alloc_cli.specs.Top.{Answered};
 
 use crate::causes::Cause;
+use crate::decomposing::decompose;
 use crate::load::{FILE_LIMIT, load_all};
 use crate::steps;
 use crate::words::Command;
@@ -34,7 +35,8 @@ fn step<K: Sink>(
     given: &[Vec<u8>],
     out: &mut K,
 ) -> Result<(), Cause>
-    requires { length given.now ≡ file_count command }
+    requires count { length given.now ≡ file_count command }
+    requires short { All (λ bytes. length bytes ≤ limit) (bytes_of given.now) }
     ensures step { Stepped K.written K.flushed (Answers command (bytes_of given.now)) out.old out.new result }
     ensures short { ShortCounts (K.short out.old) (K.short out.new) result }
     ensures faults { OutCounts (K.faults out.old) (K.faults out.new) result }
@@ -42,6 +44,8 @@ fn step<K: Sink>(
     match command {
         Command::Pick { ticket } => steps::pick(alloc, &given[0], ticket, out),
         Command::Sets => steps::sets(alloc, &given[0], &given[1], out),
+        Command::Table => steps::table(alloc, &given[0], &given[1], out),
+        Command::Decompose => decompose(alloc, &given[0], &given[1], out),
     }
 }
 

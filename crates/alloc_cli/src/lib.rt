@@ -3,6 +3,7 @@
 
 mod answer;
 mod causes;
+mod decomposing;
 mod faults;
 mod finish;
 mod lines;
@@ -12,6 +13,7 @@ mod picks;
 mod rows;
 mod sets;
 mod steps;
+mod tables;
 #[cfg(test)]
 mod tests;
 mod top;

@@ -1,13 +1,14 @@
 // The line of a cause.
-ghost use Rattle.std.specs.Prelude.{◌≡◌};
+ghost use Rattle.std.specs.Prelude.{◌≡◌, ◌∷◌, [], codes};
 ghost use Rattle.device_core.specs.Told.{Appended};
 ghost use Rattle.device_core.specs.Counts.{WriteCounts};
-ghost use Rattle.alloc_cli.specs.Causes.{fields_text, line_of};
+ghost use Rattle.alloc_cli.specs.Causes.{fields_text, joined, line_of};
+ghost use Rattle.alloc_cli.specs.Parts.{part_text};
 
 use crate::causes::Cause;
 use crate::faults::Fault;
 use crate::parts::Part::{I64, Text, U8, U32, U64, U128};
-use crate::parts::{write_parts, write_spaced};
+use crate::parts::{Part, write_parts, write_spaced};
 use alloc_input::InputFault;
 use device_core::{Sink, SinkFault};
 use lottery_file::LotteryFault;
@@ -127,6 +128,30 @@ fn write_lottery<E: Sink>(fault: LotteryFault, err: &mut E) -> Result<(), SinkFa
     )
 }
 
+// A line of a text and a number.
+fn write_one<E: Sink>(lead: &'static str, number: Part, err: &mut E) -> Result<(), SinkFault>
+    ensures bytes { Appended (E.written err.old) (E.written err.new) (joined (lead.now ∷ part_text number ∷ codes "\n" ∷ [])) result }
+    ensures flushed { E.flushed err.new ≡ E.flushed err.old }
+    ensures cause { WriteCounts (E.faults err.old) (E.faults err.new) (E.short err.old) (E.short err.new) result }
+{
+    write_parts(&[Text(lead), number, Text("\n")], err)
+}
+
+// A line of two texts, each before a number.
+fn write_two<E: Sink>(
+    lead: &'static str,
+    first: Part,
+    between: &'static str,
+    second: Part,
+    err: &mut E,
+) -> Result<(), SinkFault>
+    ensures bytes { Appended (E.written err.old) (E.written err.new) (joined (lead.now ∷ part_text first ∷ between.now ∷ part_text second ∷ codes "\n" ∷ [])) result }
+    ensures flushed { E.flushed err.new ≡ E.flushed err.old }
+    ensures cause { WriteCounts (E.faults err.old) (E.faults err.new) (E.short err.old) (E.short err.new) result }
+{
+    write_parts(&[Text(lead), first, Text(between), second, Text("\n")], err)
+}
+
 /// Writes the line of a cause, and nothing for `Done`. A refusal ends it there.
 pub fn write_line<E: Sink>(cause: Cause, err: &mut E) -> Result<(), SinkFault>
     ensures bytes { Appended (E.written err.old) (E.written err.new) (line_of cause) result }
@@ -137,60 +162,30 @@ pub fn write_line<E: Sink>(cause: Cause, err: &mut E) -> Result<(), SinkFault>
         Cause::Done => Ok(()),
         Cause::AuditFailed(fault) => write_fault(fault, err),
         Cause::Usage => write_parts(&[Text("usage\n")], err),
-        Cause::ReadFault { file } => write_parts(&[Text("read: file "), U8(file), Text("\n")], err),
-        Cause::TooLong { file } => write_parts(
-            &[Text("too long: file "), U8(file), Text("\n")],
-            err,
-        ),
+        Cause::ReadFault { file } => write_one("read: file ", U8(file), err),
+        Cause::TooLong { file } => write_one("too long: file ", U8(file), err),
         Cause::Input(fault) => write_input(fault, err),
         Cause::Lottery(fault) => write_lottery(fault, err),
-        Cause::Crossing { first, second } => write_parts(
-            &[
-                Text("crossing: sets "),
-                U32(first),
-                Text(" "),
-                U32(second),
-                Text("\n"),
-            ],
-            err,
-        ),
-        Cause::Infeasible { set, sum } => write_parts(
-            &[
-                Text("infeasible: set "),
-                U32(set),
-                Text(" sum "),
-                U128(sum),
-                Text("\n"),
-            ],
-            err,
-        ),
-        Cause::TooFine { denominator } => write_parts(
-            &[Text("too fine: "), U128(denominator), Text("\n")],
-            err,
-        ),
-        Cause::OverTotal { agent, column } => write_parts(
-            &[
-                Text("over total: agent "),
+        Cause::Crossing { first, second } => {
+            write_two("crossing: sets ", U32(first), " ", U32(second), err)
+        }
+        Cause::Infeasible { set, sum } => {
+            write_two("infeasible: set ", U32(set), " sum ", U128(sum), err)
+        }
+        Cause::TooFine { denominator } => write_one("too fine: ", U128(denominator), err),
+        Cause::OverTotal { agent, column } => {
+            write_two(
+                "over total: agent ",
                 U32(agent),
-                Text(" column "),
+                " column ",
                 U32(column),
-                Text("\n"),
-            ],
-            err,
-        ),
+                err,
+            )
+        }
         Cause::TicketOutOfRange {
             ticket,
             denominator,
-        } => write_parts(
-            &[
-                Text("ticket: "),
-                U128(ticket),
-                Text(" of "),
-                U128(denominator),
-                Text("\n"),
-            ],
-            err,
-        ),
+        } => write_two("ticket: ", U128(ticket), " of ", U128(denominator), err),
         Cause::NoTicket => write_parts(&[Text("no ticket\n")], err),
         Cause::WriteFault => write_parts(&[Text("write\n")], err),
         Cause::NoMemory => write_parts(&[Text("memory\n")], err),

@@ -1,39 +1,17 @@
 // The text of the piece of a ticket.
-ghost use Rattle.std.specs.Prelude.{◌≡◌, ◌<◌, ◌++◌, ◌∷◌, [], codes, map, slice_index_or, IfOk, OnOk};
-ghost use Rattle.std.specs.Fmt.{decimal};
+ghost use Rattle.std.specs.Prelude.{◌≡◌, ◌<◌, ◌++◌, map, IfOk, OnOk};
 ghost use Rattle.definitions.specs.Values.{piece_value};
 ghost use Rattle.lottery_file.specs.Lotteries.{lottery_value, IsLawfulLottery};
 ghost use Rattle.lottery_file.specs.Written.{give_row};
 ghost use Rattle.table_text.specs.Rows.{rows_text};
 ghost use Rattle.alloc_cli.specs.Picks.{picked_text, ticket_rows};
 
-use crate::rows::{push_number, put_end};
+use crate::rows::{name_at, push_number, put_end, put_two};
 use lottery_file::Lottery;
 use quota_sets::{Give, Names, Piece};
 use seed_draw::piece_in;
 use std::alloc::Global;
 use table_text::{NoMemory, Row, row_bytes};
-
-// A record of a word and two numbers.
-fn row_of_two(alloc: Global, word: &[u8], first: u128, second: u128) -> Result<Row, NoMemory>
-    ensures { IfOk result (λ row. row ≡ word.now ∷ decimal first ∷ decimal second ∷ []) }
-{
-    let mut row = Row::new(alloc);
-    row.push(word)?;
-    push_number(&mut row, first)?;
-    push_number(&mut row, second)?;
-    Ok(row)
-}
-
-// The name at a place, and nothing past the end.
-fn name_at(names: &Names, place: u32) -> &str
-    ensures { result.now ≡ slice_index_or names.now place [] }
-{
-    match names.at(place) {
-        Some(name) => name,
-        None => "",
-    }
-}
 
 // The record of a give.
 fn give_row(alloc: Global, agents: &Names, columns: &Names, give: Give) -> Result<Row, NoMemory>
@@ -45,20 +23,6 @@ fn give_row(alloc: Global, agents: &Names, columns: &Names, give: Give) -> Resul
     row.push(name_at(columns, give.object).as_bytes())?;
     push_number(&mut row, give.count as u128)?;
     Ok(row)
-}
-
-// Appends a record of a word and two numbers.
-fn put_two(
-    alloc: Global,
-    word: &[u8],
-    first: u128,
-    second: u128,
-    into: &mut Vec<u8>,
-) -> Result<(), NoMemory>
-    ensures { OnOk result (into.new.items ≡ into.old.items ++ rows_text ((word.now ∷ decimal first ∷ decimal second ∷ []) ∷ [])) }
-{
-    let row = row_of_two(alloc, word, first, second)?;
-    row_bytes(alloc, &row, into)
 }
 
 // Appends the records of gives.

@@ -5,6 +5,9 @@ use std::alloc::{AllocError, Global};
 use std::process::Abort;
 use std::test::Fail;
 
+mod matrices;
+mod tables;
+
 // A lottery without prices: two agents, two objects, two pieces.
 const PLAIN: &str = "lottery,1\ndenominator,2\nagents,x,y\nobjects,a,b\nrow,x,1,1\nrow,y,1,1\n\
 piece,1,1\ngive,x,a,1\ngive,y,b,1\npiece,2,1\ngive,x,b,1\ngive,y,a,1\nend,2\n";
@@ -67,23 +70,39 @@ fn two_files(
     Ok(files)
 }
 
-// `sets` on these files ends with this status, and writes this to each sink.
-fn check_sets(
+// A run of this command over these files.
+fn run_on_both(
+    alloc: Global,
+    command: &str,
+    prefs: &[u8],
+    quotas: &[u8],
+) -> Result<Seen, AllocError> {
+    let words = words_of(alloc, &[command, "prefs.csv", "quotas.csv"])?;
+    let mut files = SureFiles::new(two_files(alloc, prefs, quotas)?);
+    let (mut out, mut err) = (SureSink::new(alloc), SureSink::new(alloc));
+    let ended = run(alloc, &words, &mut files, &mut out, &mut err);
+    Ok(Seen {
+        status: ended.status,
+        cause: ended.cause,
+        out: out.bytes().to_vec(alloc)?,
+        err: err.bytes().to_vec(alloc)?,
+    })
+}
+
+// This command on these files ends with this status, and writes this to each sink.
+fn check_both(
     rt: &(impl Abort + AllocGlobal),
+    command: &str,
     prefs: &[u8],
     quotas: &[u8],
     status: u8,
     out: &str,
     err: &str,
 ) -> Result<(), AllocError> {
-    let alloc = rt.alloc();
-    let words = words_of(alloc, &["sets", "prefs.csv", "quotas.csv"])?;
-    let mut files = SureFiles::new(two_files(alloc, prefs, quotas)?);
-    let (mut written, mut told) = (SureSink::new(alloc), SureSink::new(alloc));
-    let ended = run(alloc, &words, &mut files, &mut written, &mut told);
-    assert_eq!(rt; ended.status, status, "status, not {out}{err}");
-    assert_eq!(rt; written.bytes(), out.as_bytes(), "out, not {out}");
-    assert_eq!(rt; told.bytes(), err.as_bytes(), "err, not {err}");
+    let seen = run_on_both(rt.alloc(), command, prefs, quotas)?;
+    assert_eq!(rt; seen.status, status, "status, not {out}{err}");
+    assert_eq!(rt; seen.out.as_slice(), out.as_bytes(), "out, not {out}");
+    assert_eq!(rt; seen.err.as_slice(), err.as_bytes(), "err, not {err}");
     Ok(())
 }
 
@@ -94,7 +113,7 @@ fn check_sets_refused(
     quotas: &[u8],
     line: &str,
 ) -> Result<(), AllocError> {
-    check_sets(rt, prefs, quotas, 3, "", line)
+    check_both(rt, "sets", prefs, quotas, 3, "", line)
 }
 
 // A run of these words over one file.
@@ -354,7 +373,10 @@ fn cause_without_files(alloc: Global, words: &[&str]) -> Result<Cause, AllocErro
 
 #[test]
 fn usage_words(rt: HostRuntime) -> Result<(), Fail> {
-    let forms: [&[&str]; 11] = [
+    let forms: [&[&str]; 14] = [
+        &["decompose", "matrix.csv"],
+        &["table", "prefs.csv"],
+        &["Table", "prefs.csv", "quotas.csv"],
         &["sets"],
         &["sets", "prefs.csv"],
         &["sets", "prefs.csv", "quotas.csv", "more.csv"],
@@ -378,6 +400,10 @@ fn usage_words(rt: HostRuntime) -> Result<(), Fail> {
 // Lawful files for every command.
 fn device_files(alloc: Global) -> Result<Vec<(String, Vec<u8>)>, AllocError> {
     let mut files = two_files(alloc, b"agent\nx,a\n", b"object,a,,1\n")?;
+    files.push((
+        String::from_str(alloc, "matrix.csv")?,
+        b"agent,a\nx,1/2\n".to_vec(alloc)?,
+    ))?;
     files.push((
         String::from_str(alloc, "lottery.csv")?,
         PLAIN.as_bytes().to_vec(alloc)?,
@@ -460,9 +486,11 @@ fn check_failing_writes(rt: &(impl Abort + AllocGlobal), words: &[&str]) -> Resu
 // A row for each command: its words, and how many files it loads.
 #[test]
 fn failing_devices(rt: HostRuntime) -> Result<(), Fail> {
-    let commands: [(&[&str], u8); 2] = [
+    let commands: [(&[&str], u8); 4] = [
         (&["pick", "lottery.csv", "1"], 1),
         (&["sets", "prefs.csv", "quotas.csv"], 2),
+        (&["table", "prefs.csv", "quotas.csv"], 2),
+        (&["decompose", "matrix.csv", "quotas.csv"], 2),
     ];
     for (words, loads) in commands {
         check_failing_loads(&rt, words, loads)?;
@@ -495,8 +523,9 @@ fn failing_err(rt: HostRuntime) -> Result<(), Fail> {
 
 #[test]
 fn equal_and_empty_sets(rt: HostRuntime) -> Result<(), Fail> {
-    check_sets(
+    check_both(
         &rt,
+        "sets",
         b"agent\nx,a,b\ny,a,b\nz,a\n",
         b"object,a,,2\nobject,b,,1\ngroup,XY,x,y\nset,G,2,,1\nin,G,XY,a\n\
 set,H,2,,2\nin,H,XY,a\nset,E,2,,0\n",
@@ -525,7 +554,7 @@ fn as_a_spreadsheet_writes_it(rt: HostRuntime) -> Result<(), Fail> {
 \"O\"\"Dea, Jo\",North,South,none\r\n,,,\r\n";
     let quotas: &[u8] = b"object,North,,1\r\nobject,South,0,1\r\n";
     let listed = "set,1,2,0,1,2,0\nset,2,2,0,1,2,0\nend,2\n";
-    check_sets(&rt, prefs, quotas, 0, listed, "")?;
+    check_both(&rt, "sets", prefs, quotas, 0, listed, "")?;
     let mut more = prefs.to_vec(rt.alloc())?;
     more.extend_from_slice(b"Kim,East\r\n")?;
     check_sets_refused(&rt, &more, quotas, "input: file 1 record 5 kind 5\n")?;

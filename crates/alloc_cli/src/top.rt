@@ -7,6 +7,7 @@ ghost use Rattle.alloc_cli.specs.Runs.{FilesCount, OutCount, ShortCount};
 ghost use Rattle.alloc_cli.specs.Words.{command_of};
 ghost use Rattle.alloc_cli.specs.Top.{Begun, Ran, Tells};
 ghost use Rattle.alloc_cli.specs.Complete.{Completes};
+ghost use Rattle.alloc_cli.specs.Headline.{Headline};
 ghost use Rattle.alloc_cli.specs.Load.{LoadsCount};
 ghost use Rattle.alloc_cli.specs.Steps.{OutCounts, ShortCounts};
 
@@ -57,6 +58,7 @@ pub fn run<F: Files, K: Sink, E: Sink>(
     ensures short { ShortCount (K.short out.old) (K.short out.new) result.cause }
     ensures usage { (result.cause ≡ Cause.Usage) ↔ (command_of (map string_bytes words.now) ≡ None) }
     ensures complete { Completes (F.held files.old) (map string_bytes words.now) (F.faults files.old) (F.faults files.new) (K.faults out.old) (K.faults out.new) result.cause }
+    ensures headline { Headline (F.held files.old) (map string_bytes words.now) (K.written out.old) (K.written out.new) (F.faults files.old) (F.faults files.new) (K.faults out.old) (K.faults out.new) result.cause }
     ensures status { result.status ≡ status_of result.cause }
     ensures err { Tells E.written E.flushed E.faults E.short err.old err.new result.cause }
 {

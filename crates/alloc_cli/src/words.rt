@@ -11,6 +11,10 @@ pub enum Command {
     Pick { ticket: u128 },
     /// `sets PREFS QUOTAS`
     Sets,
+    /// `table PREFS QUOTAS`
+    Table,
+    /// `decompose MATRIX QUOTAS`
+    Decompose,
 }
 
 impl Command {
@@ -20,7 +24,7 @@ impl Command {
     {
         match self {
             Command::Pick { .. } => 1,
-            Command::Sets => 2,
+            Command::Sets | Command::Table | Command::Decompose => 2,
         }
     }
 }
@@ -35,6 +39,8 @@ fn parse_two(name: &str, second: &str) -> Option<Command>
             Some(Command::Pick { ticket })
         }
         "sets" => Some(Command::Sets),
+        "table" => Some(Command::Table),
+        "decompose" => Some(Command::Decompose),
         _ => None,
     }
 }

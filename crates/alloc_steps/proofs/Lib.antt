@@ -1,3 +1,4 @@
 mod Filled
 mod Loop
 pub mod Splitting
+pub mod Wells

@@ -8,4 +8,4 @@ returns-in-Err-Crossing c =
     let first = c.in-Err-Crossing.first in
     let second = c.in-Err-Crossing.second in
     let named : c.in-Err-Crossing.field-0 ≡ trees.Crossing first second = c.in-Err-Crossing.field-0-is in
-    record { kind = tt; fault = (first, second); holds = crossing_named _ _ _ first second c.family.ensures.value named c.in-Err-Crossing.ensures.crossing; is = refl }
+    record { kind = tt; fault = (first, second); holds = crossing_named _ _ first second named c.in-Err-Crossing.ensures.crossing; is = refl }

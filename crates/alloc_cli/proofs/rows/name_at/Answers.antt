@@ -1,7 +1,7 @@
 use Rattle.std.proofs.Common.{◌≡◌, ℕ, List, [], Option, None, ap, ◌∙◌}
 use Rattle.std.specs.Prelude.{slice_get, unwrap_or}
 use Rattle.std.proofs.lemmas.Option.{unwrap_or-slice_get}
-use Rattle.alloc_cli.proofs.picks.name_at.Goals as goal
+use Rattle.alloc_cli.proofs.rows.name_at.Goals as goal
 
 pub returns-in-None : goal.returns-in-None
 returns-in-None c =

@@ -3,8 +3,9 @@
 #   bench/inputs.sh lists AGENTS OBJECTS FOLDER   lists.csv and quotas.csv: lists of up to five objects in a random order; each
 #                                                 object takes its part of the agents, at most half of them of odd number
 #   bench/inputs.sh equal N FOLDER                shares.csv and quotas.csv: N agents have equal chances of N objects, one each
+#   bench/inputs.sh mixed N K FOLDER              the same, where the chances are the average of K random orders
 #   bench/inputs.sh shares TABLE QUOTAS FOLDER    shares.csv and quotas.csv: the shares of an eating table, under its quotas and at
-#                                                 most one unit for each agent
+#                                                 most one unit for each agent; at most 1,000 sets in all may be stated
 set -eu
 
 made_lists() {
@@ -48,6 +49,28 @@ equal_shares() {
         }'
 }
 
+mixed_shares() {
+    awk -v n="$1" -v orders="$2" '
+        function next_number() { state = state * 16807 % 2147483647; return state }
+        BEGIN {
+            state = 1
+            for (k = 1; k <= orders; k++) {
+                for (a = 1; a <= n; a++) order[a] = a
+                for (i = 1; i <= n; i++) {
+                    j = i + next_number() % (n - i + 1)
+                    kept = order[i]; order[i] = order[j]; order[j] = kept
+                    count[i, order[i]]++
+                }
+            }
+            printf "agent"; for (a = 1; a <= n; a++) printf ",s" a; print ""
+            for (i = 1; i <= n; i++) {
+                printf "p" i
+                for (a = 1; a <= n; a++) printf ",%s", (count[i, a] ? count[i, a] "/" orders : "")
+                print ""
+            }
+        }'
+}
+
 equal_quotas() {
     awk -v n="$1" '
         BEGIN {
@@ -71,6 +94,7 @@ table_quotas() {
 case "${1-}" in
     lists) mkdir -p "$4"; made_lists "$2" "$3" >"$4/lists.csv"; made_quotas "$2" "$3" >"$4/quotas.csv" ;;
     equal) mkdir -p "$3"; equal_shares "$2" >"$3/shares.csv"; equal_quotas "$2" >"$3/quotas.csv" ;;
+    mixed) mkdir -p "$4"; mixed_shares "$2" "$3" >"$4/shares.csv"; equal_quotas "$2" >"$4/quotas.csv" ;;
     shares) mkdir -p "$4"; table_shares "$2" >"$4/shares.csv"; table_quotas "$2" "$3" >"$4/quotas.csv" ;;
-    *) echo "usage: bench/inputs.sh lists AGENTS OBJECTS FOLDER | equal N FOLDER | shares TABLE QUOTAS FOLDER" >&2; exit 2 ;;
+    *) echo "usage: bench/inputs.sh lists AGENTS OBJECTS FOLDER | equal N FOLDER | mixed N K FOLDER | shares TABLE QUOTAS FOLDER" >&2; exit 2 ;;
 esac

@@ -1,6 +1,6 @@
 -- Facts on small values, from tests that compute.
-use Rattle.std.proofs.Common.{◌≡◌, ◌≢◌, ℕ, suc, zero, ◌+◌, ◌-◌, ◌*◌, ◌/◌, ◌^◌, ◌<◌, ◌≤◌, ◌⊎◌, List, [], ◌∷◌, Bool, true, false, not, ◌||◌, ◌&&◌, Option, Some, None, length, get_or, drop, refl, sym, ap, subst, inl, inr, arith, All}
-use Rattle.std.specs.Prelude.{nat_lt, nat_le, ◌==◌, AllPairs, slice_get, slice_index, slice_index_or, MatchOption, ℤ, pos, ◌≤ℤ◌, ◌<ℤ◌, ◌+ℤ◌, int_lt, int_le, sum_by, sum, nat_eq, IsSome}
+use Rattle.std.proofs.Common.{◌≡◌, ◌≢◌, ℕ, suc, zero, ◌+◌, ◌-◌, ◌*◌, ◌/◌, ◌^◌, ◌<◌, ◌≤◌, ◌⊎◌, List, [], ◌∷◌, Bool, true, false, not, ◌||◌, ◌&&◌, Option, Some, None, length, get_or, drop, refl, sym, ap, subst, inl, inr, arith, All, ◌∙◌}
+use Rattle.std.specs.Prelude.{nat_lt, nat_le, ◌==◌, AllPairs, slice_get, slice_index, slice_index_or, MatchOption, ℤ, pos, ◌≤ℤ◌, ◌<ℤ◌, ◌+ℤ◌, int_lt, int_le, sum_by, sum, nat_eq}
 use Rattle.std.specs.List.{list_all, list_any, IsDistinct, Any}
 use Rattle.std.specs.Str.{bytes_eq}
 use Rattle.std.proofs.lemmas.Bool.{both_ways, or_cases, and_parts, eqb-true, ltb-true, leb-true, lt-ltb, le-leb, eq-eqb, cases_lt, not-true, and_from, or_left, or_right, or_from}
@@ -10,18 +10,22 @@ use Rattle.std.proofs.lemmas.Int.{ints}
 use Rattle.std.proofs.lemmas.Option.{slice_get_within, get_or_from_slice_get}
 use Rattle.std.proofs.lemmas.List.Sums.{AllPass-from_list_all}
 use Rattle.std.proofs.lemmas.Nat.Gcd.{le_of_dvd}
-use Rattle.std.proofs.Math.Nat.{dvd-sub}
+use Rattle.std.proofs.Math.Nat.{dvd-sub, mul-le-mul_right}
+use Rattle.std.proofs.lemmas.List.{get_or_past}
 use Prim.Native.Nat.{◌∣◌}
 use Rattle.definitions.specs.declared.Cell.{Cell}
 use Rattle.definitions.proofs.Members.{distinct_none, distinct_more}
-use Rattle.definitions.proofs.Families.{no_set}
+use Rattle.definitions.proofs.Families.{is_lower, lower_true, no_set, bihierarchy_of_apart}
 use Rattle.definitions.specs.declared.Give.{Give}
-use Rattle.definitions.specs.Sets.{IsBefore, IsQuotaSet, IsFamily, IsInRange, IsCellWithin, cells_in, cell_of, crosses, cells_at, cells_of, sides_of, NoCrossing, set_sum, SetValue, unit_at, FamilyValue, ScaledValue, IsSet, set_cells, set_size, set_side, is_subset, holds}
-use Rattle.definitions.specs.Hierarchies.{IsLower, IsAbove, IsParent, HasNoParent, IsHolder, IsDeepest, TreesValue, AreTreesOf, parent_at, deepest_at}
-use Rattle.definitions.specs.Values.{ProblemValue, PricesValue, Market, list_at, stated_sets, worths_of, column_count, row_sets, HoldsColumn, IsListUpTo, IsStatedSet, IsProblem}
-use Rattle.definitions.specs.Eating.{eaten_by, moment_at, slot_cells, slot_ceiling, share, IsEatingTable, IsPartialTable, IsLowestTerms, IsAssignmentOf}
+use Rattle.definitions.specs.Sets.{IsBefore, IsQuotaSet, IsFamily, IsInRange, IsCellWithin, cells_in, cell_of, crosses, cells_at, cells_of, sides_of, NoCrossing, set_sum, SetValue, unit_at, units_of, cell_index, row_sum, prefix_sum, FamilyValue, ScaledValue, IsSet, set_cells, set_size, set_side, is_subset, holds}
+use Rattle.definitions.specs.Hierarchies.{IsLower, IsAbove, IsParent, HasNoParent, IsHolder, IsDeepest}
+use Rattle.definitions.specs.Trees.{TreesValue, AreTreesOf, parent_at, deepest_at}
+use Rattle.definitions.specs.Values.{ProblemValue, PricesValue, Market, list_at, demand_at, listed_cells, limits_of, stated_sets, worths_of, column_count, row_sets, HoldsColumn, IsListUpTo, IsStatedSet, IsProblem}
+use Rattle.definitions.specs.Eating.{eaten_by, moment_at, limit_cells, limit_ceiling, share, IsEatingTable, IsPartialTable, IsLowestTerms, IsAssignmentOf}
+use Rattle.definitions.specs.Assignment.{IsRandomAssignment, Dominates}
+use Rattle.definitions.proofs.Sums.{unit_at_past, unit_at_within}
 use Rattle.definitions.specs.Certificate.{worth_at, place_cell, cell_price, is_left_out, FallsFrom, Falls, Certifies}
-use Rattle.definitions.specs.Lotteries.{LotteryValue, IsLottery, ends_with_none}
+use Rattle.definitions.specs.Lotteries.{LotteryValue, IsLottery, HasPrices, HasNoPrices}
 use Rattle.definitions.specs.Rounding.{IsRounded, Rounds, fractional_count}
 use Rattle.definitions.specs.Pieces.{WeightedMatrix, Decomposes, AreGives}
 
@@ -60,27 +64,27 @@ pairs_by_test p R f (x ∷ xs) e i zero d l m = absurd (omega (arith, l))
 -- an eating table
 pub table_by_tests : (market : Market) (D : ℕ) (e : List ℕ) → nat_le 1 D ≡ true → length e ≡ length market.limits
     → below (λ j. nat_le (moment_at e j) D) (length e) ≡ true
-    → below (λ j. below (λ t. nat_lt (eaten_by market D e (slot_cells market j) t) (slot_ceiling market j * D)) (moment_at e j)) (length e) ≡ true
-    → below (λ j. nat_le (eaten_by market D e (slot_cells market j) (moment_at e j)) (slot_ceiling market j * D)) (length e) ≡ true
-    → below (λ j. not (nat_lt (moment_at e j) D) || (eaten_by market D e (slot_cells market j) (moment_at e j) == slot_ceiling market j * D)) (length e) ≡ true
+    → below (λ j. below (λ t. nat_lt (eaten_by market D e (limit_cells market j) t) (limit_ceiling market j * D)) (moment_at e j)) (length e) ≡ true
+    → below (λ j. nat_le (eaten_by market D e (limit_cells market j) (moment_at e j)) (limit_ceiling market j * D)) (length e) ≡ true
+    → below (λ j. not (nat_lt (moment_at e j) D) || (eaten_by market D e (limit_cells market j) (moment_at e j) == limit_ceiling market j * D)) (length e) ≡ true
     → IsEatingTable market D e
 table_by_tests market D e a b c d k f = record {
   positive = leb-true 1 D a;
   size = b;
   within = λ j l. leb-true (moment_at e j) D (below_at (λ j. nat_le (moment_at e j) D) (length e) j c l);
-  before = λ j t l m. ltb-true (eaten_by market D e (slot_cells market j) t) (slot_ceiling market j * D)
-      (below_at (λ t. nat_lt (eaten_by market D e (slot_cells market j) t) (slot_ceiling market j * D)) (moment_at e j) t (below_at (λ j. below (λ t. nat_lt (eaten_by market D e (slot_cells market j) t) (slot_ceiling market j * D)) (moment_at e j)) (length e) j d l) m);
-  kept = λ j l. leb-true (eaten_by market D e (slot_cells market j) (moment_at e j)) (slot_ceiling market j * D) (below_at (λ j. nat_le (eaten_by market D e (slot_cells market j) (moment_at e j)) (slot_ceiling market j * D)) (length e) j k l);
-  full = λ j l m. eqb-true (eaten_by market D e (slot_cells market j) (moment_at e j)) (slot_ceiling market j * D)
-      (unless (nat_lt (moment_at e j) D) (eaten_by market D e (slot_cells market j) (moment_at e j) == slot_ceiling market j * D) (below_at (λ j. not (nat_lt (moment_at e j) D) || (eaten_by market D e (slot_cells market j) (moment_at e j) == slot_ceiling market j * D)) (length e) j f l) (lt-ltb (moment_at e j) D m));
+  before = λ j t l m. ltb-true (eaten_by market D e (limit_cells market j) t) (limit_ceiling market j * D)
+      (below_at (λ t. nat_lt (eaten_by market D e (limit_cells market j) t) (limit_ceiling market j * D)) (moment_at e j) t (below_at (λ j. below (λ t. nat_lt (eaten_by market D e (limit_cells market j) t) (limit_ceiling market j * D)) (moment_at e j)) (length e) j d l) m);
+  kept = λ j l. leb-true (eaten_by market D e (limit_cells market j) (moment_at e j)) (limit_ceiling market j * D) (below_at (λ j. nat_le (eaten_by market D e (limit_cells market j) (moment_at e j)) (limit_ceiling market j * D)) (length e) j k l);
+  full = λ j l m. eqb-true (eaten_by market D e (limit_cells market j) (moment_at e j)) (limit_ceiling market j * D)
+      (unless (nat_lt (moment_at e j) D) (eaten_by market D e (limit_cells market j) (moment_at e j) == limit_ceiling market j * D) (below_at (λ j. not (nat_lt (moment_at e j) D) || (eaten_by market D e (limit_cells market j) (moment_at e j) == limit_ceiling market j * D)) (length e) j f l) (lt-ltb (moment_at e j) D m));
 }
 
 -- a table up to a moment
 pub partial_by_tests : (market : Market) (D m : ℕ) (e : List ℕ) → nat_lt m D ≡ true → length e ≡ length market.limits
     → below (λ j. nat_le (moment_at e j) m || (moment_at e j == D)) (length e) ≡ true
     → (j : ℕ) × (j < length e) × (moment_at e j ≡ m)
-    → below (λ j. below (λ t. not (nat_lt t (moment_at e j)) || nat_lt (eaten_by market D e (slot_cells market j) t) (slot_ceiling market j * D)) (suc m)) (length e) ≡ true
-    → below (λ j. not (nat_le (moment_at e j) m) || (eaten_by market D e (slot_cells market j) (moment_at e j) == slot_ceiling market j * D)) (length e) ≡ true
+    → below (λ j. below (λ t. not (nat_lt t (moment_at e j)) || nat_lt (eaten_by market D e (limit_cells market j) t) (limit_ceiling market j * D)) (suc m)) (length e) ≡ true
+    → below (λ j. not (nat_le (moment_at e j) m) || (eaten_by market D e (limit_cells market j) (moment_at e j) == limit_ceiling market j * D)) (length e) ≡ true
     → IsPartialTable market D m e
 partial_by_tests market D m e a b c some d f = record {
   before_end = ltb-true m D a;
@@ -91,11 +95,11 @@ partial_by_tests market D m e a b c some d f = record {
   ];
   some = some;
   before = λ j t l n k.
-      let row = below_at (λ j. below (λ t. not (nat_lt t (moment_at e j)) || nat_lt (eaten_by market D e (slot_cells market j) t) (slot_ceiling market j * D)) (suc m)) (length e) j d l in
-      let place = below_at (λ t. not (nat_lt t (moment_at e j)) || nat_lt (eaten_by market D e (slot_cells market j) t) (slot_ceiling market j * D)) (suc m) t row (omega (arith, n)) in
-      ltb-true (eaten_by market D e (slot_cells market j) t) (slot_ceiling market j * D) (unless (nat_lt t (moment_at e j)) (nat_lt (eaten_by market D e (slot_cells market j) t) (slot_ceiling market j * D)) place (lt-ltb t (moment_at e j) k));
-  full = λ j l n. eqb-true (eaten_by market D e (slot_cells market j) (moment_at e j)) (slot_ceiling market j * D)
-      (unless (nat_le (moment_at e j) m) (eaten_by market D e (slot_cells market j) (moment_at e j) == slot_ceiling market j * D) (below_at (λ j. not (nat_le (moment_at e j) m) || (eaten_by market D e (slot_cells market j) (moment_at e j) == slot_ceiling market j * D)) (length e) j f l) (le-leb (moment_at e j) m n));
+      let row = below_at (λ j. below (λ t. not (nat_lt t (moment_at e j)) || nat_lt (eaten_by market D e (limit_cells market j) t) (limit_ceiling market j * D)) (suc m)) (length e) j d l in
+      let place = below_at (λ t. not (nat_lt t (moment_at e j)) || nat_lt (eaten_by market D e (limit_cells market j) t) (limit_ceiling market j * D)) (suc m) t row (omega (arith, n)) in
+      ltb-true (eaten_by market D e (limit_cells market j) t) (limit_ceiling market j * D) (unless (nat_lt t (moment_at e j)) (nat_lt (eaten_by market D e (limit_cells market j) t) (limit_ceiling market j * D)) place (lt-ltb t (moment_at e j) k));
+  full = λ j l n. eqb-true (eaten_by market D e (limit_cells market j) (moment_at e j)) (limit_ceiling market j * D)
+      (unless (nat_le (moment_at e j) m) (eaten_by market D e (limit_cells market j) (moment_at e j) == limit_ceiling market j * D) (below_at (λ j. not (nat_le (moment_at e j) m) || (eaten_by market D e (limit_cells market j) (moment_at e j) == limit_ceiling market j * D)) (length e) j f l) (le-leb (moment_at e j) m n));
 }
 
 -- two neighbouring moments leave no common divisor
@@ -105,13 +109,63 @@ lowest_by_neighbours D e j k l m h = record {
 }
 
 -- an assignment of a table
-pub assignment_by_tests : (market : Market) (D : ℕ) (e : List ℕ) (x : ScaledValue) → x.denominator ≡ D
+pub assignment_by_tests : (columns : ℕ) (market : Market) (D : ℕ) (e : List ℕ) (x : ScaledValue) → x.agents ≡ length market.agents → x.columns ≡ columns
+    → length x.units ≡ x.agents * x.columns → x.denominator ≡ D
     → below (λ i. below (λ a. unit_at x.columns x.units (cell_of i a) == share market D e i a) x.columns) x.agents ≡ true
-    → IsAssignmentOf market D e x
-assignment_by_tests market D e x a b = record {
+    → IsAssignmentOf columns market D e x
+assignment_by_tests columns market D e x rows width shape a b = record {
+  agents = rows;
+  columns = width;
+  shape = shape;
   denominator = a;
   units = λ i a l m. eqb-true (unit_at x.columns x.units (cell_of i a)) (share market D e i a)
       (below_at (λ a. unit_at x.columns x.units (cell_of i a) == share market D e i a) x.columns a (below_at (λ i. below (λ a. unit_at x.columns x.units (cell_of i a) == share market D e i a) x.columns) x.agents i b l) m);
+}
+
+-- a matrix of units at each cell of a table, and 0 elsewhere
+unlisted : (p : ProblemValue) (x : ScaledValue) → length x.units ≡ x.agents * x.columns
+    → below (λ i. below (λ a. holds (listed_cells p) (cell_of i a) || (unit_at x.columns x.units (cell_of i a) == 0)) x.columns) x.agents ≡ true
+    → (c : Cell) → holds (listed_cells p) c ≡ false → units_of x c ≡ 0
+unlisted p x shape e c off = elim (cases_lt c.object x.columns) [
+  | inr past ↦ unit_at_past x.columns x.units c past
+  | inl within ↦ elim (cases_lt c.agent x.agents) [
+    | inr over ↦ unit_at_within x.columns x.units c within ∙ get_or_past x.units (cell_index x.columns c) 0 (beyond over)
+    | inl inside ↦ elim (or_cases (holds (listed_cells p) c) (unit_at x.columns x.units c == 0)
+        (below_at (λ a. holds (listed_cells p) (cell_of c.agent a) || (unit_at x.columns x.units (cell_of c.agent a) == 0)) x.columns c.object
+        (below_at (λ i. below (λ a. holds (listed_cells p) (cell_of i a) || (unit_at x.columns x.units (cell_of i a) == 0)) x.columns) x.agents c.agent e inside) within)) [
+          | inl on ↦ absurd (both_ways (holds (listed_cells p) c) off on)
+          | inr nothing ↦ eqb-true (unit_at x.columns x.units c) 0 nothing
+        ]
+  ]
+]
+  where
+    beyond : x.agents ≤ c.agent → length x.units ≤ cell_index x.columns c
+    beyond over = omega (arith, shape, mul-le-mul_right x.columns over)
+
+-- a random assignment
+pub random_by_tests : (p : ProblemValue) (x : ScaledValue) → nat_le 1 x.denominator ≡ true → length x.units ≡ x.agents * x.columns
+    → below (λ i. row_sum (units_of x) (column_count p) i == demand_at p i * x.denominator) (length p.agents) ≡ true
+    → below (λ i. below (λ a. holds (listed_cells p) (cell_of i a) || (unit_at x.columns x.units (cell_of i a) == 0)) x.columns) x.agents ≡ true
+    → list_all (λ s. nat_le (set_sum (units_of x) s.cells) (s.ceiling * x.denominator)) (limits_of p) ≡ true
+    → IsRandomAssignment p x.denominator (units_of x)
+random_by_tests p x a shape rows off kept = record {
+  one = leb-true 1 x.denominator a;
+  rows = λ i l. eqb-true (row_sum (units_of x) (column_count p) i) (demand_at p i * x.denominator) (below_at (λ i. row_sum (units_of x) (column_count p) i == demand_at p i * x.denominator) (length p.agents) i rows l);
+  listed = unlisted p x shape off;
+  kept = all_by_test (λ s. nat_le (set_sum (units_of x) s.cells) (s.ceiling * x.denominator)) (λ s. set_sum (units_of x) s.cells ≤ s.ceiling * x.denominator)
+      (λ s. leb-true (set_sum (units_of x) s.cells) (s.ceiling * x.denominator)) (limits_of p) kept;
+}
+
+-- one assignment dominates another
+pub dominance_by_tests : (p : ProblemValue) (d : ℕ) (x : Cell → ℕ) (e : ℕ) (y : Cell → ℕ)
+    → below (λ i. below (λ k. nat_le (d * prefix_sum y i (list_at p i) k) (e * prefix_sum x i (list_at p i) k)) (suc (length (list_at p i)))) (length p.agents) ≡ true
+    → (i : ℕ) × (k : ℕ) × (i < length p.agents) × (k ≤ length (list_at p i)) × (d * prefix_sum y i (list_at p i) k < e * prefix_sum x i (list_at p i) k)
+    → Dominates p d x e y
+dominance_by_tests p d x e y each more = record {
+  each = λ i k l m. leb-true (d * prefix_sum y i (list_at p i) k) (e * prefix_sum x i (list_at p i) k)
+      (below_at (λ k. nat_le (d * prefix_sum y i (list_at p i) k) (e * prefix_sum x i (list_at p i) k)) (suc (length (list_at p i))) k
+      (below_at (λ i. below (λ k. nat_le (d * prefix_sum y i (list_at p i) k) (e * prefix_sum x i (list_at p i) k)) (suc (length (list_at p i)))) (length p.agents) i each l) (omega (arith, m)));
+  more = more;
 }
 
 -- worths that fall
@@ -217,9 +271,6 @@ decomposition_by_tests columns sets x d ps a b c e f g = record {
 abbrev is_set : FamilyValue → ℕ → Bool
 is_set f s = nat_lt 0 s && nat_le s (length f.sets)
 
-abbrev is_lower : FamilyValue → ℕ → ℕ → Bool
-is_lower f s t = nat_lt (set_size f s) (set_size f t) || ((set_size f s == set_size f t) && nat_lt s t)
-
 abbrev is_above : FamilyValue → ℕ → ℕ → Bool
 is_above f s t = is_set f t && ((set_side f s == set_side f t) && (is_subset (set_cells f s) (set_cells f t)
     && (nat_lt (set_size f s) (set_size f t) || (is_subset (set_cells f t) (set_cells f s) && nat_lt s t))))
@@ -232,12 +283,6 @@ is_set_by_test f s e = let parts = and_parts (nat_lt 0 s) (nat_le s (length f.se
 
 is_set_test : (f : FamilyValue) (s : ℕ) → IsSet f s → is_set f s ≡ true
 is_set_test f s h = and_from (nat_lt 0 s) (nat_le s (length f.sets)) (lt-ltb 0 s h.0) (le-leb s (length f.sets) h.1)
-
-is_lower_by_test : (f : FamilyValue) (s t : ℕ) → is_lower f s t ≡ true → IsLower f s t
-is_lower_by_test f s t e = elim (or_cases (nat_lt (set_size f s) (set_size f t)) ((set_size f s == set_size f t) && nat_lt s t) e) [
-  | inl less ↦ inl (ltb-true (set_size f s) (set_size f t) less)
-  | inr equal ↦ (let parts = and_parts (set_size f s == set_size f t) (nat_lt s t) equal in inr (eqb-true (set_size f s) (set_size f t) parts.0, ltb-true s t parts.1))
-]
 
 pub is_above_by_test : (f : FamilyValue) (s t : ℕ) → is_above f s t ≡ true → IsAbove f s t
 is_above_by_test f s t e =
@@ -287,7 +332,7 @@ least_by_test f p t e u known h =
     let test = unless (p u) ((u == t) || is_lower f t u) (below_at (λ u. not (p u) || ((u == t) || is_lower f t u)) (suc (length f.sets)) u e (omega (arith, known.1))) h in
     elim (or_cases (u == t) (is_lower f t u) test) [
       | inl same ↦ inl (eqb-true u t same)
-      | inr above ↦ inr (is_lower_by_test f t u above)
+      | inr above ↦ inr (lower_true f t u above)
     ]
 
 abbrev is_none_of : FamilyValue → (ℕ → Bool) → Bool
@@ -348,7 +393,7 @@ pub trees_by_tests : (f : FamilyValue) (t : TreesValue) → is_apart (cells_of f
     → below (λ i. below (λ a. is_deepest_entry f 2 (cell_of i a) (deepest_at t 2 (cell_of i a))) f.columns) f.agents ≡ true
     → AreTreesOf f t
 trees_by_tests f t a b c d e one two = record {
-  apart = apart_by_test (cells_of f) (sides_of f) a;
+  apart = bihierarchy_of_apart f (apart_by_test (cells_of f) (sides_of f) a);
   sets = b;
   agents = c;
   columns = d;
@@ -521,7 +566,7 @@ gives_by_tests agents columns gives e =
 pub lottery_by_tests : (l : LotteryValue) → nat_lt 0 l.shares.denominator ≡ true → nat_le l.shares.denominator (2 ^ 116) ≡ true
     → length l.shares.units ≡ l.shares.agents * l.shares.columns → nat_le (sum l.shares.units) (1000 * l.shares.denominator) ≡ true
     → l.shares.agents ≡ length l.agents → l.shares.columns ≡ length l.columns
-    → ((ends_with_none l.columns ≡ true) × IsSome l.prices) ⊎ ((ends_with_none l.columns ≡ false) × (l.prices ≡ None) × (l.lists ≡ []))
+    → HasPrices l ⊎ HasNoPrices l
     → list_all (λ p. nat_le 1 p.weight) l.pieces ≡ true → sum_by (λ p. p.weight) l.pieces ≡ l.shares.denominator
     → list_all (λ p. list_all (is_give l.shares.agents l.shares.columns) p.gives && pairs (λ g h. is_before (cell_of g.agent g.object) (cell_of h.agent h.object)) p.gives) l.pieces ≡ true
     → IsLottery l

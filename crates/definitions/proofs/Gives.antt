@@ -13,7 +13,8 @@ use Rattle.definitions.specs.declared.Cell.{Cell}
 use Rattle.definitions.specs.declared.Give.{Give}
 use Rattle.definitions.specs.Sets.{cell_of, cell_index, same_cell, row_cells, IsBefore}
 use Rattle.definitions.specs.Values.{PieceValue}
-use Rattle.definitions.specs.Pieces.{piece_count, gives_along, gives_of, matrix_of, WeightedMatrix, piece_of_matrix, pieces_of, weighted_pieces, AreGives}
+use Rattle.definitions.specs.Gives.{gives_along, gives_of, piece_of_matrix, pieces_of}
+use Rattle.definitions.specs.Pieces.{piece_count, matrix_of, WeightedMatrix, weighted_pieces, AreGives}
 
 -- the entry at index k of a list that begins at an index
 abbrev spot : ℕ → ℕ → List ℕ → ℕ

@@ -1,5 +1,5 @@
 -- What holds of each element of lists that are made of lists, and filters that keep all or nothing.
-use Rattle.std.proofs.Common.{◌≡◌, ℕ, suc, zero, ◌+◌, ◌<◌, ◌≤◌, List, [], ◌∷◌, ◌++◌, Bool, true, false, map, filter, refl, ap, subst, arith, Some, All}
+use Rattle.std.proofs.Common.{◌≡◌, ℕ, suc, zero, ◌+◌, ◌<◌, ◌≤◌, List, [], ◌∷◌, ◌++◌, Bool, true, false, map, filter, length, ◌∙◌, refl, ap, subst, arith, Some, All}
 use Rattle.std.specs.Prelude.{slice_get}
 use Rattle.std.specs.List.{AllByRecursion, range_with_len, zip}
 use Rattle.std.proofs.lemmas.Option.{same_Some}
@@ -32,6 +32,11 @@ each_of_front P (x ∷ xs) ys a = (a.0, each_of_front P xs ys a.1)
 pub each_of_rest : {X : Type 0} (P : X → Type 0) (xs ys : List X) → AllByRecursion P (xs ++ ys) → AllByRecursion P ys
 each_of_rest P [] ys a = a
 each_of_rest P (x ∷ xs) ys a = each_of_rest P xs ys a.1
+
+-- an element of the second of two lists end to end
+pub second_at : {X : Type 0} (xs ys : List X) (k : ℕ) → slice_get (xs ++ ys) (length xs + k) ≡ slice_get ys k
+second_at [] ys k = ap (slice_get ys) (let plain : 0 + k ≡ k = omega arith in plain)
+second_at (x ∷ xs) ys k = ap (slice_get (x ∷ xs ++ ys)) (let next : suc (length xs) + k ≡ suc (length xs + k) = omega arith in next) ∙ second_at xs ys k
 
 -- the numbers of a range are below its end
 pub each_below : (P : ℕ → Type 0) (s n : ℕ) → ((i : ℕ) → s ≤ i → i < s + n → P i) → AllByRecursion P (range_with_len s n)

@@ -1,15 +1,17 @@
 -- Lists without repeats as finite sets, over a test of equality.
-use Rattle.std.proofs.Common.{◌≡◌, ℕ, suc, ◌+◌, ◌<◌, ◌≤◌, ◌∙◌, List, [], ◌∷◌, ◌++◌, Bool, true, false, not, ◌||◌, ◌&&◌, cond, length, get_or, refl, sym, ap, subst, inl, inr, arith}
+use Rattle.std.proofs.Common.{◌≡◌, ℕ, zero, suc, ◌+◌, ◌<◌, ◌≤◌, ◌∙◌, List, [], ◌∷◌, ◌++◌, Bool, true, false, not, ◌||◌, ◌&&◌, cond, length, take, filter, get_or, refl, sym, ap, subst, inl, inr, arith}
 use Rattle.std.specs.Prelude.{nat_eq, nat_lt, ◌==◌, count_by}
 use Rattle.std.specs.List.{AllByRecursion, IsDistinct, list_any, list_all}
 use Rattle.std.specs.Set.{is_member}
 use Rattle.std.specs.Bool.{Decides}
+use Rattle.std.specs.Cmp.{IsEquivalence}
 use Rattle.std.specs.Str.{bytes_eq}
-use Rattle.std.proofs.lemmas.Bool.{both_ways, or_parts, or_from, and_parts, and_from, and_right, or_left, or_right, or_cases, false_from_ne_true, eqb-true, eq-eqb, lt-ltb}
+use Rattle.std.proofs.lemmas.Bool.{both_ways, or_parts, or_from, and_parts, and_from, and_left, and_right, or_left, or_right, or_cases, false_from_ne_true, eqb-true, eq-eqb, lt-ltb}
 use Rattle.std.proofs.lemmas.List.Sums.{sum_by-cons, count_by-le-length}
 use Rattle.std.proofs.lemmas.List.Folds.{list_any_at, list_any-append}
+use Rattle.std.proofs.lemmas.List.Elements.{recursion_from_All}
 use Rattle.std.proofs.lemmas.Bool.Decides.{nat_tests}
-use Rattle.std.proofs.lemmas.Map.Made.{IsDistinct-from_AllPairs}
+use Rattle.std.proofs.lemmas.Map.Made.{IsDistinct-from_AllPairs, is_member-filter}
 use Rattle.std.proofs.lemmas.Slice.Eq.{bytes_eq-Decides}
 use Rattle.definitions.specs.declared.Cell.{Cell}
 use Rattle.definitions.specs.Sets.{cell_of, same_cell, holds, overlaps, is_subset, crosses, IsBefore, IsRising}
@@ -46,6 +48,20 @@ module _ {X : Type 0} (same : X → X → Bool) where
   pub distinct_more : (x : X) (xs : List X) → is_member same xs x ≡ false → IsDistinct same xs → IsDistinct same (x ∷ xs)
   unfolding IsDistinct
   distinct_more x xs e d = (absent_along_all x xs e, d)
+
+  -- what is no member of a list is none of its front
+  pub member_take : (k : ℕ) (xs : List X) (x : X) → is_member same xs x ≡ false → is_member same (take k xs) x ≡ false
+  member_take zero xs x e = refl
+  member_take (suc k) [] x e = refl
+  member_take (suc k) (y ∷ ys) x e =
+      let parts = or_parts (same x y) (is_member same ys x) e in or_from (same x y) (is_member same (take k ys) x) parts.0 (member_take k ys x parts.1)
+
+  -- the front of a list without repeats has none
+  pub distinct_take : (k : ℕ) (xs : List X) → IsDistinct same xs → IsDistinct same (take k xs)
+  distinct_take zero xs d = distinct_none
+  distinct_take (suc k) [] d = distinct_none
+  distinct_take (suc k) (x ∷ xs) d =
+      distinct_more x (take k xs) (member_take k xs x (distinct_first x xs d)) (distinct_take k xs (distinct_rest x xs d))
 
   count_cons : (p : X → Bool) (x : X) (xs : List X) → count_by p (x ∷ xs) ≡ cond (p x) 1 0 + count_by p xs
   count_cons p x xs = sum_by-cons (λ y. cond (p y) 1 0) x xs
@@ -174,9 +190,30 @@ module _ {X : Type 0} (same : X → X → Bool) (s : IsEqualityTest same) where
       and_from (p x) (list_all p xs) (h x (or_left (same x x) (is_member same xs x) (s.self x)))
       (all_from_members p xs (λ y m. h y (or_right (same y x) (is_member same xs y) m)))
 
+  equivalence : IsEquivalence same
+  equivalence = record { refl = s.self; symm = s.turned; congr = λ x y z e. ap (λ v. same v z) (s.sound x y e) }
+
+  -- the members of a filter are the members that pass
+  pub member_of_filter : (p : X → Bool) (xs : List X) (x : X) → is_member same (filter p xs) x ≡ (is_member same xs x && p x)
+  member_of_filter p xs x = is_member-filter equivalence p x (λ y e. ap p (s.sound x y e)) xs
+
+  distinct_step : (p : X → Bool) (x : X) (xs : List X) (b : Bool) → is_member same (filter p xs) x ≡ false → IsDistinct same (filter p xs) → IsDistinct same (cond b (x ∷ filter p xs) (filter p xs))
+  distinct_step p x xs true off d = distinct_more same x (filter p xs) off d
+  distinct_step p x xs false off d = d
+
+  -- a filter has no repeats where the list has none
+  pub distinct_filter : (p : X → Bool) (xs : List X) → IsDistinct same xs → IsDistinct same (filter p xs)
+  distinct_filter p [] d = distinct_none same
+  distinct_filter p (x ∷ xs) d =
+      distinct_step p x xs (p x) (member_of_filter p xs x ∙ and_left (is_member same xs x) (p x) (distinct_first same x xs d)) (distinct_filter p xs (distinct_rest same x xs d))
+
   -- an element is a member
   pub member_at : (xs : List X) (i : ℕ) (d : X) → i < length xs → is_member same xs (get_or xs i d) ≡ true
   member_at xs i d l = list_any_at (same (get_or xs i d)) xs i d l (s.self (get_or xs i d))
+
+  -- each element is a member
+  pub all_are_members : (xs : List X) → AllByRecursion (λ x. is_member same xs x ≡ true) xs
+  all_are_members xs = recursion_from_All (λ x. is_member same xs x ≡ true) xs (λ k d l. member_at xs k d l)
 
   -- a member is an element
   pub member_place : (x : X) (xs : List X) → is_member same xs x ≡ true → (i : ℕ) × (i < length xs) × ((d : X) → get_or xs i d ≡ x)

@@ -5,13 +5,9 @@ use Rattle.std.specs.List.{AllByRecursion, IsDistinct}
 use Rattle.std.proofs.lemmas.Bool.{and_right, or_from, ne_eqb, cases_lt}
 use Rattle.std.proofs.lemmas.Option.{unwrap_or-slice_get, slice_get_past}
 use Rattle.definitions.specs.declared.Cell.{Cell}
-use Rattle.definitions.specs.Sets.{cell_of, same_cell, holds, SetValue}
-use Rattle.definitions.specs.Values.{Limit, ProblemValue, IsProblem, IsListUpTo, market_agents, market_of, list_at, demand_at}
+use Rattle.definitions.specs.Sets.{cell_of, same_cell, holds}
+use Rattle.definitions.specs.Values.{ProblemValue, IsProblem, IsListUpTo, market_agents, market_of, list_at, demand_at}
 use Rattle.definitions.proofs.Members.{distinct_none}
-
--- a set of a problem as a limit
-abbrev pub limit_of : SetValue → Limit
-limit_of s = record { ceiling = s.ceiling; cells = s.cells }
 
 -- the agent of a market at an index has the demand and the list that stand there
 pub agent_within : (demands : List ℕ) (lists : List (List ℕ)) (i : ℕ) → i < length demands → i < length lists

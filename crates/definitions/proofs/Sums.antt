@@ -64,6 +64,14 @@ pub sum_flat : {X Y : Type 0} (f : Y → ℕ) (g : X → List Y) (xs : List X) �
 sum_flat f g [] = refl
 sum_flat f g (x ∷ xs) = omega (arith, sum_by-append f (g x) (flat_map g xs), sum_by-cons (λ z. sum_by f (g z)) x xs, sum_flat f g xs)
 
+-- a sum over numbers from a later one on
+pub sum_shifted : (f : ℕ → ℕ) (s w n : ℕ) → sum_by f (range_with_len (s + w) n) ≡ sum_by (λ k. f (k + w)) (range_with_len s n)
+sum_shifted f s w zero = refl
+sum_shifted f s w (suc n) =
+    let start : s + w + 1 ≡ s + 1 + w = omega arith in
+    let later : sum_by f (range_with_len (s + w + 1) n) ≡ sum_by f (range_with_len (s + 1 + w) n) = ap (λ k. sum_by f (range_with_len k n)) start in
+    omega (arith, sum_by-cons f (s + w) (range_with_len (s + w + 1) n), sum_by-cons (λ k. f (k + w)) s (range_with_len (s + 1) n), later, sum_shifted f (s + 1) w n)
+
 -- a sum over the firsts of pairs
 pub sum_firsts : {A B : Type 0} (f : A → ℕ) (xs : List A) (ys : List B) → length ys ≡ length xs → sum_by (λ (w : A × B). f w.0) (zip xs ys) ≡ sum_by f xs
 sum_firsts {A} {B} f xs ys e = sym (sum_mapped f (λ (w : A × B). w.0) (zip xs ys)) ∙ ap (sum_by f) (firsts-zip xs ys e)

@@ -7,7 +7,7 @@ use Rattle.definitions.specs.declared.Cell.{Cell}
 use Rattle.definitions.specs.Sets.{cell_of, holds, set_sum, row_sum, prefix_sum}
 use Rattle.definitions.specs.Values.{ProblemValue, column_count, list_at, demand_at, listed_cells, limits_of, PricesValue, worths_of}
 
--- x over d: each row adds up to its agent's demand, nothing stands off the lists, and no set of the problem is above its ceiling
+-- x over d: each row adds up to its agent's demand, nothing stands off the lists, and no limit of the problem is passed
 pub record IsRandomAssignment (p : ProblemValue) (d : ℕ) (x : Cell → ℕ) : Type 0 where
   pub one : 1 ≤ d
   pub rows : (i : ℕ) → i < length p.agents → row_sum x (column_count p) i ≡ demand_at p i * d

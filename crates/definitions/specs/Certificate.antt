@@ -7,7 +7,7 @@ use Rattle.std.specs.Set.{unique_keys}
 use Rattle.definitions.specs.declared.Cell.{Cell}
 use Rattle.definitions.specs.Sets.{cell_of, holds, set_sum, SetValue}
 use Rattle.definitions.specs.Values.{ProblemValue, list_at, stated_sets, is_capped, market_of, limits_of, PricesValue, worths_of}
-use Rattle.definitions.specs.Hierarchies.{TreesValue, AreTreesOf, parent_at, chain_of}
+use Rattle.definitions.specs.Trees.{TreesValue, AreTreesOf, parent_at, chain_of}
 use Rattle.definitions.specs.Eating.{full_at, share}
 
 -- the worth of place k of agent i's list
@@ -52,7 +52,7 @@ pub record Certifies (p : ProblemValue) (d : ℕ) (x : Cell → ℕ) (y : Prices
       → 0 < x (place_cell p i k) → is_left_out p d x (place_cell p i j) ≡ false
       → (worth_at y i j +ℤ pos (cell_price p y (place_cell p i k))) ≤ℤ (worth_at y i k +ℤ pos (cell_price p y (place_cell p i j)))
 
--- the distinct moments before the end, over all sets of the problem
+-- the distinct moments before the end, over all limits of the problem
 abbrev pub distinct_moments : List ℕ → ℕ → List ℕ
 distinct_moments e d = unique_keys nat_eq (filter (λ m. nat_lt m d) e)
 

@@ -1,7 +1,7 @@
 -- The eating table: simultaneous eating under ceilings, with demands as speeds, as a condition on a finished table.
 -- Simultaneous eating: Bogomolnaia and Moulin 2001. The table over whole numbers and its limit 2^116 are the project's.
 -- A table e over D has for each limit of a market the moment at which it is full; the moment 1 is the whole number D.
--- A limit that isn't full before the end has the number D. Limit j stands in slot j, from 0; stated set s in slot s - 1.
+-- A limit that isn't full before the end has the number D. Limits count from 0: limit j has entry j, and stated set s is limit s - 1.
 use Rattle.std.specs.Prelude.{◌≡◌, ℕ, ◌+◌, ◌-◌, ◌*◌, ◌<◌, ◌≤◌, ◌^◌, ◌⊎◌, ◌==◌, min, max, Bool, List, [], ◌∷◌, length, slice_get, slice_index, if◌then◌else◌, unwrap_or, sum_by}
 use Rattle.std.specs.Option.{option_map_or}
 use Prim.Native.Nat.{◌∣◌}
@@ -49,24 +49,27 @@ abbrev pub share : Market → ℕ → List ℕ → ℕ → ℕ → ℕ
 share market D e i a = let w : Agent = unwrap_or (slice_get market.agents i) no_agent in
     eaten_along w.demand (full_at D market.limits e i) (λ b. b == a) 0 D w.list
 
--- the number of slot j
+-- the moment of limit j
 abbrev pub moment_at : List ℕ → ℕ → ℕ
 moment_at e j = slice_index e j
 
--- the cells of slot j
-abbrev pub slot_cells : Market → ℕ → List Cell
-slot_cells market j = option_map_or (λ s. s.cells) (slice_get market.limits j) []
+-- the cells of limit j, and none past the limits
+abbrev pub limit_cells : Market → ℕ → List Cell
+limit_cells market j = option_map_or (λ s. s.cells) (slice_get market.limits j) []
 
--- the ceiling of slot j
-abbrev pub slot_ceiling : Market → ℕ → ℕ
-slot_ceiling market j = option_map_or (λ s. s.ceiling) (slice_get market.limits j) 0
+-- the ceiling of limit j, and 0 past the limits
+abbrev pub limit_ceiling : Market → ℕ → ℕ
+limit_ceiling market j = option_map_or (λ s. s.ceiling) (slice_get market.limits j) 0
 
 -- the sum of all demands
 abbrev pub demand_sum : Market → ℕ
 demand_sum market = sum_by (λ w. w.demand) market.agents
 
--- x is the assignment of the table: what each agent has of each column in the end
-pub record IsAssignmentOf (market : Market) (D : ℕ) (e : List ℕ) (x : ScaledValue) : Type 0 where
+-- x is the assignment of the table over so many columns: a row for each agent, and in it what the agent has of each column in the end
+pub record IsAssignmentOf (width : ℕ) (market : Market) (D : ℕ) (e : List ℕ) (x : ScaledValue) : Type 0 where
+  pub agents : x.agents ≡ length market.agents
+  pub columns : x.columns ≡ width
+  pub shape : length x.units ≡ x.agents * x.columns
   pub denominator : x.denominator ≡ D
   pub units : (i a : ℕ) → i < x.agents → a < x.columns → unit_at x.columns x.units (cell_of i a) ≡ share market D e i a
 
@@ -75,9 +78,9 @@ pub record IsEatingTable (market : Market) (D : ℕ) (e : List ℕ) : Type 0 whe
   pub positive : 1 ≤ D
   pub size : length e ≡ length market.limits
   pub within : (j : ℕ) → j < length e → moment_at e j ≤ D
-  pub before : (j t : ℕ) → j < length e → t < moment_at e j → eaten_by market D e (slot_cells market j) t < slot_ceiling market j * D
-  pub kept : (j : ℕ) → j < length e → eaten_by market D e (slot_cells market j) (moment_at e j) ≤ slot_ceiling market j * D
-  pub full : (j : ℕ) → j < length e → moment_at e j < D → eaten_by market D e (slot_cells market j) (moment_at e j) ≡ slot_ceiling market j * D
+  pub before : (j t : ℕ) → j < length e → t < moment_at e j → eaten_by market D e (limit_cells market j) t < limit_ceiling market j * D
+  pub kept : (j : ℕ) → j < length e → eaten_by market D e (limit_cells market j) (moment_at e j) ≤ limit_ceiling market j * D
+  pub full : (j : ℕ) → j < length e → moment_at e j < D → eaten_by market D e (limit_cells market j) (moment_at e j) ≡ limit_ceiling market j * D
 
 -- no number above 1 divides D and every number of the table; a number D changes nothing here
 pub record IsLowestTerms (D : ℕ) (e : List ℕ) : Type 0 where
@@ -89,8 +92,8 @@ pub record IsPartialTable (market : Market) (D m : ℕ) (e : List ℕ) : Type 0 
   pub size : length e ≡ length market.limits
   pub said : (j : ℕ) → j < length e → (moment_at e j ≤ m) ⊎ (moment_at e j ≡ D)
   pub some : (j : ℕ) × (j < length e) × (moment_at e j ≡ m)
-  pub before : (j t : ℕ) → j < length e → t ≤ m → t < moment_at e j → eaten_by market D e (slot_cells market j) t < slot_ceiling market j * D
-  pub full : (j : ℕ) → j < length e → moment_at e j ≤ m → eaten_by market D e (slot_cells market j) (moment_at e j) ≡ slot_ceiling market j * D
+  pub before : (j t : ℕ) → j < length e → t ≤ m → t < moment_at e j → eaten_by market D e (limit_cells market j) t < limit_ceiling market j * D
+  pub full : (j : ℕ) → j < length e → moment_at e j ≤ m → eaten_by market D e (limit_cells market j) (moment_at e j) ≡ limit_ceiling market j * D
 
 -- the first table that is too fine: in lowest terms its D is above 2^116, and the moments before m alone fit a denominator up to 2^116
 pub record IsFirstTooFine (market : Market) (D m : ℕ) (e : List ℕ) : Type 0 where

@@ -1,19 +1,20 @@
 -- Small cases that were worked by hand, as laws: what the definitions say of them, and which wrong neighbours they refuse.
-use Rattle.std.specs.Prelude.{◌≡◌, ℕ, ◌+◌, ◌-◌, ◌^◌, true, false, List, [], ◌∷◌, ◌++◌, length, map, codes, Option, Some, None, ℤ, pos, negsuc, slice_index}
+use Rattle.std.specs.Prelude.{◌≡◌, ℕ, ◌+◌, ◌-◌, ◌*◌, ◌^◌, true, false, List, [], ◌∷◌, ◌++◌, length, map, codes, Option, Some, None, ℤ, pos, negsuc, slice_index}
 use Rattle.std.specs.List.{range_with_len}
 use Rattle.definitions.specs.declared.Cell.{Cell}
 use Rattle.definitions.specs.declared.Give.{Give}
 use Rattle.definitions.specs.Sets.{cell_of, SetValue, FamilyValue, ScaledValue, units_of, IsFirstInfeasible}
-use Rattle.definitions.specs.Hierarchies.{TreesValue, AreTreesOf}
-use Rattle.definitions.specs.Values.{ProblemValue, IsProblem, PricesValue, PieceValue, SharesValue, row_sets, market_of}
-use Rattle.definitions.specs.Eating.{IsEatingTable, IsPartialTable, IsLowestTerms, IsAssignmentOf}
+use Rattle.definitions.specs.Trees.{TreesValue, AreTreesOf}
+use Rattle.definitions.specs.Values.{ProblemValue, IsProblem, Market, PricesValue, PieceValue, SharesValue, row_sets, market_of}
+use Rattle.definitions.specs.Eating.{IsEatingTable, IsPartialTable, IsFirstTooFine, IsLowestTerms, IsAssignmentOf}
+use Rattle.definitions.specs.Assignment.{IsRandomAssignment, Dominates}
 use Rattle.definitions.specs.Certificate.{Certifies, IsRecipeOf}
 use Rattle.definitions.specs.Scaling.{IsScaled}
 use Rattle.definitions.specs.Pieces.{WeightedMatrix, Decomposes}
-use Rattle.definitions.specs.Tickets.{ticket_of, piece_of}
+use Rattle.definitions.specs.Tickets.{ticket_of, piece_of, named_units}
 use Rattle.definitions.specs.Texts.{count_of, signed_of, share_of, is_name, null_name}
-use Rattle.definitions.specs.Lotteries.{LotteryValue, Solves}
-use Rattle.definitions.specs.Fairness.{IsAlike, Envies, prefix_set}
+use Rattle.definitions.specs.Lotteries.{LotteryValue, IsLottery, Solves, Splits}
+use Rattle.definitions.specs.Fairness.{IsAlike, Envies, prefix_set, guarded_family}
 use Rattle.definitions.specs.Sides.{IsOddRing, IsSplit}
 
 -- the column of an object for so many agents, as a set of side 2 with floor 0
@@ -67,7 +68,7 @@ abbrev pub TiedMoment : Type 0
 TiedMoment = IsProblem four_agents
     × IsEatingTable (market_of four_agents) 2 (1 ∷ 1 ∷ 2 ∷ 2 ∷ [])
     × IsLowestTerms 2 (1 ∷ 1 ∷ 2 ∷ 2 ∷ [])
-    × IsAssignmentOf (market_of four_agents) 2 (1 ∷ 1 ∷ 2 ∷ 2 ∷ [])
+    × IsAssignmentOf 5 (market_of four_agents) 2 (1 ∷ 1 ∷ 2 ∷ 2 ∷ [])
     (units_over 2 4 5 (1 ∷ 0 ∷ 1 ∷ 0 ∷ 0 ∷ 1 ∷ 0 ∷ 1 ∷ 0 ∷ 0 ∷ 0 ∷ 1 ∷ 0 ∷ 1 ∷ 0 ∷ 0 ∷ 1 ∷ 0 ∷ 1 ∷ 0 ∷ []))
     × IsPartialTable (market_of four_agents) 2 1 (1 ∷ 1 ∷ 2 ∷ 2 ∷ [])
     × (IsEatingTable (market_of four_agents) 2 (1 ∷ 1 ∷ 2 ∷ 1 ∷ []) → ⊥)
@@ -84,7 +85,7 @@ abbrev pub SetFullBeforeItsColumn : Type 0
 SetFullBeforeItsColumn = IsProblem shared_limit
     × IsEatingTable (market_of shared_limit) 2 (2 ∷ 2 ∷ 1 ∷ [])
     × IsLowestTerms 2 (2 ∷ 2 ∷ 1 ∷ [])
-    × IsAssignmentOf (market_of shared_limit) 2 (2 ∷ 2 ∷ 1 ∷ []) (units_over 2 3 3 (1 ∷ 1 ∷ 0 ∷ 1 ∷ 1 ∷ 0 ∷ 2 ∷ 0 ∷ 0 ∷ []))
+    × IsAssignmentOf 3 (market_of shared_limit) 2 (2 ∷ 2 ∷ 1 ∷ []) (units_over 2 3 3 (1 ∷ 1 ∷ 0 ∷ 1 ∷ 1 ∷ 0 ∷ 2 ∷ 0 ∷ 0 ∷ []))
     × (IsEatingTable (market_of shared_limit) 3 (2 ∷ 3 ∷ 3 ∷ []) → ⊥)
 
 -- the same with a set equal to that of x and y, and an empty one
@@ -127,7 +128,7 @@ abbrev pub DemandsOfTwo : Type 0
 DemandsOfTwo = IsProblem two_demands
     × IsEatingTable (market_of two_demands) 6 (6 ∷ 4 ∷ 3 ∷ 6 ∷ 3 ∷ 6 ∷ [])
     × IsLowestTerms 6 (6 ∷ 4 ∷ 3 ∷ 6 ∷ 3 ∷ 6 ∷ [])
-    × IsAssignmentOf (market_of two_demands) 6 (6 ∷ 4 ∷ 3 ∷ 6 ∷ 3 ∷ 6 ∷ []) two_demands_units
+    × IsAssignmentOf 3 (market_of two_demands) 6 (6 ∷ 4 ∷ 3 ∷ 6 ∷ 3 ∷ 6 ∷ []) two_demands_units
     × IsRecipeOf two_demands 6 (6 ∷ 4 ∷ 3 ∷ 6 ∷ 3 ∷ 6 ∷ [])
     (prices_from (0 ∷ 4 ∷ []) ((pos 8 ∷ pos 4 ∷ pos 0 ∷ []) ∷ (pos 8 ∷ pos 0 ∷ negsuc 0 ∷ []) ∷ (pos 4 ∷ pos 0 ∷ []) ∷ []))
     × Certifies two_demands 6 (units_of two_demands_units)
@@ -255,3 +256,113 @@ TicketsOfZeros =
     × (ticket_of zero_words 6 ≡ Some 6 → ⊥) × (ticket_of zero_words 6 ≡ Some 4 → ⊥)
     × (ticket_of zero_words (2 ^ 116) ≡ Some 0xd8653e56a5d40903df1a0ade0b877 → ⊥)
     × (piece_of (1 ∷ 2 ∷ 1 ∷ 2 ∷ []) 3 ≡ 1 → ⊥)
+
+-- one who eats so quickly that a limit of 1 is full after one of 2^116 + 1 parts of the time
+abbrev pub quick_market : ℕ → Market
+quick_market demand = record {
+  agents = (record { demand = demand; list = 0 ∷ 1 ∷ [] }) ∷ [];
+  limits = (record { ceiling = 1; cells = cell_of 0 0 ∷ [] }) ∷ [];
+}
+
+-- that table needs the denominator 2^116 + 1, and it is the first that is too fine. The table of one who is slower by 1, which needs just 2^116,
+-- is refused, and so is the same table in numbers that are twice as large
+abbrev pub TooFineAtOnce : Type 0
+TooFineAtOnce = IsFirstTooFine (quick_market (2 ^ 116 + 1)) (2 ^ 116 + 1) 1 (1 ∷ [])
+    × (IsFirstTooFine (quick_market (2 ^ 116)) (2 ^ 116) 1 (1 ∷ []) → ⊥)
+    × (IsFirstTooFine (quick_market (2 ^ 116 + 1)) (2 * (2 ^ 116 + 1)) 2 (2 ∷ []) → ⊥)
+
+-- the odds of x, y and z of the uneaten place are a random assignment. Odds that pass the ceiling of a are refused, and so is a row that
+-- gives z less than it asks for
+abbrev pub OddsOfThree : Type 0
+OddsOfThree = IsRandomAssignment uneaten_place 6 (units_of uneaten_units)
+    × (IsRandomAssignment uneaten_place 6 (units_of (units_over 6 3 3 (4 ∷ 0 ∷ 2 ∷ 3 ∷ 1 ∷ 2 ∷ 0 ∷ 4 ∷ 2 ∷ []))) → ⊥)
+    × (IsRandomAssignment uneaten_place 6 (units_of (units_over 6 3 3 (3 ∷ 1 ∷ 2 ∷ 3 ∷ 1 ∷ 2 ∷ 0 ∷ 4 ∷ 1 ∷ []))) → ⊥)
+
+-- x wants a, then b, and y wants b, then a. One unit of each
+abbrev pub opposite_wishes : ProblemValue
+opposite_wishes = problem_from (codes "x" ∷ codes "y" ∷ []) (codes "a" ∷ codes "b" ∷ [])
+    ((0 ∷ 1 ∷ 2 ∷ []) ∷ (1 ∷ 0 ∷ 2 ∷ []) ∷ []) (1 ∷ 1 ∷ [])
+    (column_set 2 0 1 ∷ column_set 2 1 1 ∷ [])
+
+-- each gets what it wants most, over 1
+abbrev pub wishes_met : ScaledValue
+wishes_met = units_over 1 2 3 (1 ∷ 0 ∷ 0 ∷ 0 ∷ 1 ∷ 0 ∷ [])
+
+-- each gets one half of each object, over 2
+abbrev pub halves : ScaledValue
+halves = units_over 2 2 3 (1 ∷ 1 ∷ 0 ∷ 1 ∷ 1 ∷ 0 ∷ [])
+
+-- the first dominates the second. That the second dominates the first is refused, and so is that it dominates itself
+abbrev pub OppositeWishes : Type 0
+OppositeWishes = IsProblem opposite_wishes
+    × Dominates opposite_wishes 1 (units_of wishes_met) 2 (units_of halves)
+    × (Dominates opposite_wishes 2 (units_of halves) 1 (units_of wishes_met) → ⊥)
+    × (Dominates opposite_wishes 2 (units_of halves) 2 (units_of halves) → ⊥)
+
+-- so much of column a for agent 0
+abbrev pub give_of : ℕ → ℕ → Give
+give_of a count = record { agent = 0; object = a; count = count }
+
+-- the shares 0.25, 1/3 and 2 over 12, with pieces of these weights: a and c, b and c, c alone
+abbrev pub mixed_lottery : ℕ → ℕ → ℕ → LotteryValue
+mixed_lottery first second third = record {
+  agents = codes "x" ∷ [];
+  columns = codes "a" ∷ codes "b" ∷ codes "c" ∷ [];
+  shares = units_over 12 1 3 (3 ∷ 4 ∷ 24 ∷ []);
+  lists = [];
+  prices = None;
+  pieces = piece_from first (give_of 0 1 ∷ give_of 2 2 ∷ []) ∷ piece_from second (give_of 1 1 ∷ give_of 2 2 ∷ []) ∷ piece_from third (give_of 2 2 ∷ []) ∷ [];
+  design = None;
+}
+
+-- a family without sets over so many columns
+abbrev pub no_sets : ℕ → FamilyValue
+no_sets columns = record { agents = 1; columns = columns; sets = [] }
+
+-- with the weights 3, 4 and 5 the lottery splits the shares. Weights of 3, 5 and 4, by which b is given too often, are refused, whatever
+-- columns the family says that it has; and so are shares that aren't the given ones
+abbrev pub SharesSplit : Type 0
+SharesSplit = Splits mixed_shares (no_sets 3) (mixed_lottery 3 4 5)
+    × (Splits mixed_shares (no_sets 3) (mixed_lottery 3 5 4) → ⊥)
+    × (Splits mixed_shares (no_sets 1) (mixed_lottery 3 5 4) → ⊥)
+    × (Splits (record mixed_shares { entries = (record { num = 1; den = 4 }) ∷ (record { num = 1; den = 4 }) ∷ (record { num = 2; den = 1 }) ∷ [] }) (no_sets 3) (mixed_lottery 3 4 5) → ⊥)
+
+-- shares are read by value: 2 over 4 is one half, whose least denominator is 2. That it needs 4 is refused, and so is a matrix without its entry
+abbrev pub one_half : SharesValue
+one_half = record { agents = codes "x" ∷ []; objects = codes "a" ∷ []; entries = (record { num = 2; den = 4 }) ∷ [] }
+
+abbrev pub SharesByValue : Type 0
+SharesByValue = IsScaled one_half (units_over 2 1 1 (1 ∷ []))
+    × (IsScaled one_half (units_over 4 1 1 (2 ∷ [])) → ⊥)
+    × (IsScaled (record one_half { entries = [] }) (units_over 1 1 1 (0 ∷ [])) → ⊥)
+
+-- a set of side 1 of an agent's columns, with these quotas
+abbrev pub first_places : ℕ → List ℕ → ℕ → SetValue
+first_places i columns floor = record { side = 1; floor = floor; ceiling = 1; cells = map (cell_of i) columns }
+
+-- the sets of the first one, two and three places of x, y and z, where that of x's first place has this floor
+abbrev pub first_places_of_three : ℕ → List SetValue
+first_places_of_three floor = first_places 0 (0 ∷ []) floor ∷ first_places 0 (0 ∷ 1 ∷ []) 0 ∷ first_places 0 (0 ∷ 1 ∷ 2 ∷ []) 1
+    ∷ first_places 1 (0 ∷ []) 0 ∷ first_places 1 (0 ∷ 1 ∷ []) 0 ∷ first_places 1 (0 ∷ 1 ∷ 2 ∷ []) 1
+    ∷ first_places 2 (1 ∷ []) 0 ∷ first_places 2 (0 ∷ 1 ∷ []) 0 ∷ first_places 2 (0 ∷ 1 ∷ 2 ∷ []) 1 ∷ []
+
+-- the guarded family of the odds of x, y and z: the family, and then for each agent the sets of its first one, two and three places. That
+-- these sets come first is refused, and so is a floor of 1 for x's first place, of which it has one half
+abbrev pub GuardedPlaces : Type 0
+GuardedPlaces = (guarded_family uneaten_place uneaten_units ≡ record uneaten_place.family { sets = uneaten_place.family.sets ++ first_places_of_three 0 })
+    × (guarded_family uneaten_place uneaten_units ≡ record uneaten_place.family { sets = first_places_of_three 0 ++ uneaten_place.family.sets } → ⊥)
+    × (guarded_family uneaten_place uneaten_units ≡ record uneaten_place.family { sets = uneaten_place.family.sets ++ first_places_of_three 1 } → ⊥)
+
+-- of the six tickets of that lottery three give a to x, none gives a to z, and four give b to z. Counts that are off by one are refused,
+-- and so is that each piece is one ticket, by which two would give b to z
+abbrev pub TicketsOfCells : Type 0
+TicketsOfCells = (named_units uneaten_lottery.pieces (cell_of 0 0) ≡ 3)
+    × (named_units uneaten_lottery.pieces (cell_of 2 0) ≡ 0)
+    × (named_units uneaten_lottery.pieces (cell_of 2 1) ≡ 4)
+    × (named_units uneaten_lottery.pieces (cell_of 0 0) ≡ 4 → ⊥)
+    × (named_units uneaten_lottery.pieces (cell_of 2 1) ≡ 2 → ⊥)
+
+-- a lottery with prices has a list for each agent: without its lists it is refused
+abbrev pub ListsForAll : Type 0
+ListsForAll = IsLottery uneaten_lottery
+    × (IsLottery (record uneaten_lottery { lists = [] }) → ⊥)

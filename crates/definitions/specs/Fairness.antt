@@ -7,7 +7,7 @@ use Rattle.definitions.specs.declared.Cell.{Cell}
 use Rattle.definitions.specs.Sets.{cell_of, holds, prefix_sum, row_cells, SetValue, FamilyValue, ScaledValue, units_of}
 use Rattle.definitions.specs.Values.{ProblemValue, list_at, demand_at, limits_of, column_count}
 
--- agents i and j are alike: equal demands, and each set of the problem holds the one's cell of an object exactly where it holds the other's
+-- agents i and j are alike: equal demands, and each limit of the problem holds the one's cell of an object exactly where it holds the other's
 pub record IsAlike (p : ProblemValue) (i j : ℕ) : Type 0 where
   pub demands : demand_at p i ≡ demand_at p j
   pub sets : All (λ s. (a : ℕ) → a < length p.objects → holds s.cells (cell_of i a) ≡ holds s.cells (cell_of j a)) (limits_of p)

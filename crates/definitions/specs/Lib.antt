@@ -1,11 +1,15 @@
 pub mod Assignment
 pub mod Certificate
+pub mod Eaters
 pub mod Eating
 pub mod Examples
 pub mod Fairness
 pub mod Firsts
+pub mod Gives
 pub mod Hierarchies
+pub mod Laws
 pub mod Lotteries
+pub mod Peelings
 pub mod Pieces
 pub mod Rounding
 pub mod Scaling
@@ -13,4 +17,5 @@ pub mod Sets
 pub mod Sides
 pub mod Texts
 pub mod Tickets
+pub mod Trees
 pub mod Values

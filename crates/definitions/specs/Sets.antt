@@ -115,7 +115,7 @@ cells_of f = map (λ s. s.cells) f.sets
 abbrev pub sides_of : FamilyValue → List ℕ
 sides_of f = map (λ s. s.side) f.sets
 
--- the cells of set s, and none off the sets
+-- the cells of set s, for s from 1 on, and none above the sets. No set has the number 0, which reads here as 1
 abbrev pub cells_at : List (List Cell) → ℕ → List Cell
 cells_at sets s = unwrap_or (slice_get sets (s - 1)) []
 
@@ -127,15 +127,15 @@ IsNumberOf sets s = (0 < s) × (s ≤ length sets)
 abbrev pub IsSet : FamilyValue → ℕ → Type 0
 IsSet f s = (0 < s) × (s ≤ length f.sets)
 
--- the cells of set s
+-- the cells of set s, for s from 1 on
 abbrev pub set_cells : FamilyValue → ℕ → List Cell
 set_cells f s = cells_at (cells_of f) s
 
--- how many cells set s has
+-- how many cells set s has, for s from 1 on
 abbrev pub set_size : FamilyValue → ℕ → ℕ
 set_size f s = length (set_cells f s)
 
--- the side of set s, and 0 off the family
+-- the side of set s, for s from 1 on, and 0 above the sets
 abbrev pub set_side : FamilyValue → ℕ → ℕ
 set_side f s = slice_index (sides_of f) (s - 1)
 
@@ -155,7 +155,7 @@ IsHierarchy f side = (s t : ℕ) → IsSet f s → IsSet f t
 
 -- both sides are hierarchies
 abbrev pub IsBihierarchy : FamilyValue → Type 0
-IsBihierarchy f = NoCrossing (cells_of f) (sides_of f)
+IsBihierarchy f = IsHierarchy f 1 × IsHierarchy f 2
 
 -- a matrix of whole numbers of units over one denominator, row by row
 pub record ScaledValue : Type 0 where

@@ -128,7 +128,7 @@ capped_limits i (w ∷ agents) =
 abbrev pub market_agents : List ℕ → List (List ℕ) → List Agent
 market_agents demands lists = map (λ w. record { demand = w.0; list = w.1 }) (zip demands lists)
 
--- the limits are the stated sets by number, and then one for each capped cell
+-- the market of these agents and stated sets: its limits are the stated sets by number, and then one for each capped cell
 abbrev pub market_from : List ℕ → List (List ℕ) → List SetValue → Market
 market_from demands lists stated = record {
   agents = market_agents demands lists;
@@ -139,21 +139,9 @@ market_from demands lists stated = record {
 abbrev pub market_of : ProblemValue → Market
 market_of p = market_from p.demands p.lists (stated_sets p)
 
--- the sets of the problem: the stated sets, and a set of one cell with ceiling 1 for each capped cell
+-- the limits of a problem: the stated sets, and a limit of 1 on one cell for each capped cell
 abbrev pub limits_of : ProblemValue → List Limit
 limits_of p = (market_of p).limits
-
--- what is kept of a problem while it is eaten
-pub record EaterValue : Type 0 where
-  pub agents : ℕ
-  pub columns : ℕ
-  pub lists : List (List ℕ)
-  pub stated : List SetValue
-  pub demands : List ℕ
-
--- the market of the problem that is eaten
-abbrev pub market_of_eater : EaterValue → Market
-market_of_eater v = market_from v.demands v.lists v.stated
 
 -- a price for each stated set, and for each agent the worths of the places of its list
 pub record PricesValue : Type 0 where

@@ -63,4 +63,4 @@ pub struct Infeasible {
 pub mod examples;
 mod laws;
 
-pub use laws::{first_fault_law, first_in_law};
+pub use laws::{first_fault_law, first_in_law, limits_of_a_problem, piece_of_ticket};

@@ -12,6 +12,6 @@ returns c = (
   problem_by_tests shared_limit refl refl refl refl refl refl refl refl refl refl (family_by_tests shared_limit.family refl refl refl refl refl refl) refl refl refl refl refl refl refl,
   table_by_tests (market_of shared_limit) _ _ refl refl refl refl refl refl,
   lowest_by_neighbours _ _ 2 0 (omega arith) (omega arith) refl,
-  assignment_by_tests (market_of shared_limit) _ _ _ refl refl,
+  assignment_by_tests 3 (market_of shared_limit) _ _ _ refl refl refl refl refl,
   λ wrong. absurd (omega (arith, wrong.kept 2 (omega arith))),
 )

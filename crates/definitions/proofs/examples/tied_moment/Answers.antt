@@ -12,7 +12,7 @@ returns c = (
   problem_by_tests four_agents refl refl refl refl refl refl refl refl refl refl (family_by_tests four_agents.family refl refl refl refl refl refl) refl refl refl refl refl refl refl,
   table_by_tests (market_of four_agents) _ _ refl refl refl refl refl refl,
   lowest_by_neighbours _ _ 0 2 (omega arith) (omega arith) refl,
-  assignment_by_tests (market_of four_agents) _ _ _ refl refl,
+  assignment_by_tests 5 (market_of four_agents) _ _ _ refl refl refl refl refl,
   partial_by_tests (market_of four_agents) _ _ _ refl refl refl (1, omega arith, refl) refl refl,
   λ wrong. absurd (cc (wrong.full 3 (omega arith) (omega arith))),
   λ wrong. absurd (omega (arith, wrong.before 1 1 (omega arith) (omega arith) (omega arith))),

@@ -14,7 +14,7 @@ use Rattle.definitions.specs.Certificate.{Certifies, HasShapeOf, is_left_out, pl
 use Rattle.definitions.proofs.Sums.{sum_same, sum_same_all, sum_of_sums, sum_scaled, sum_le_all, sum_firsts}
 use Rattle.definitions.proofs.Lists.{each_pair, each_below}
 use Rattle.definitions.proofs.Problems.{list_lawful}
-use Rattle.certificate_laws.proofs.Listed.{listed_distinct, off_lists, row_on_list, sum_listed}
+use Rattle.definitions.proofs.Listed.{listed_distinct, off_lists, row_on_list, sum_listed}
 use Rattle.certificate_laws.proofs.Rows.{IsBest, row, Level, level}
 use Rattle.certificate_laws.proofs.Prices.{price_in, prices_exchanged}
 use Rattle.certificate_laws.proofs.Limits.{stated_kept, stated_distinct, capped_kept, none_unpriced, none_kept}
@@ -56,11 +56,11 @@ loss_at p y i w = down w.1 + price_of p y (cell_of i w.0)
 
 module _ (p : ProblemValue) (y : PricesValue) (d : ℕ) (own : Cell → ℕ) (e : ℕ) (other : Cell → ℕ) (c : Compared p y d own e other) where
   -- a cell that is left out has all it may have
-  left_out_full : (i a : ℕ) → i < length p.agents → is_left_out p d own (cell_of i a) ≡ true → times d other (cell_of i a) ≤ times e own (cell_of i a)
-  left_out_full i a l out =
+  left_out_full : (i a : ℕ) → is_left_out p d own (cell_of i a) ≡ true → times d other (cell_of i a) ≤ times e own (cell_of i a)
+  left_out_full i a out =
       let parts = and_parts (is_capped p (cell_of i a)) (own (cell_of i a) == d) out in
       let all : own (cell_of i a) ≡ d = eqb-true (own (cell_of i a)) d parts.1 in
-      let bound : other (cell_of i a) ≤ e = capped_kept p other e i a c.lawful l c.other_is.kept parts.0 in
+      let bound : other (cell_of i a) ≤ e = capped_kept p other e (cell_of i a) c.lawful c.other_is.kept parts.0 in
       let m : d * other (cell_of i a) ≤ d * e = mul-le-mul_left d bound in
       let n : e * own (cell_of i a) ≡ d * e = ap (λ k. e * k) all ∙ mul_comm e d in
       omega arith
@@ -100,7 +100,7 @@ module _ (p : ProblemValue) (y : PricesValue) (d : ℕ) (own : Cell → ℕ) (e 
       let inside : k < length (list_at p i) = slice_get_within (list_at p i) k a f in
       let here : IsBestAt i (agent_level i l).down (slice_index (list_at p i) k, worth_at y i k) = record {
         kept = λ out. (agent_level i l).kept k inside out;
-        full = λ out. left_out_full i (slice_index (list_at p i) k) l out;
+        full = λ out. left_out_full i (slice_index (list_at p i) k) out;
         used = λ some. (agent_level i l).used k inside (some_units e (own (place_cell p i k)) some);
       } in
       subst (IsBestAt i (agent_level i l).down) (same_pair (slice_index (list_at p i) k) a (worth_at y i k) w (get_or_from_slice_get (list_at p i) k a 0 f) (ap (λ o. unwrap_or o (pos 0)) g)) here

@@ -16,7 +16,7 @@ use Rattle.definitions.specs.Fairness.{guarded_family}
 use Rattle.definitions.proofs.Sums.{sum_mapped, sum_firsts, sum_first_firsts}
 use Rattle.definitions.proofs.Problems.{list_lawful}
 use Rattle.certificate_laws.specs.Guarded.{places_sum, number_at}
-use Rattle.certificate_laws.proofs.Listed.{row_on_list}
+use Rattle.definitions.proofs.Listed.{row_on_list}
 use Rattle.certificate_laws.proofs.Worths.{sum_parts}
 use Rattle.certificate_laws.proofs.Near.{rounded_near, rounded_whole, last_of, SinksAlong, near_from_fronts, guard}
 use Rattle.certificate_laws.proofs.PrefixSets.{prefix_rounded}

@@ -5,10 +5,10 @@ use Rattle.std.specs.List.{AllByRecursion, range_with_len}
 use Rattle.std.proofs.lemmas.Option.{slice_get-map, slice_get_within, slice_get-get_or, get_or_from_slice_get}
 use Rattle.std.proofs.lemmas.List.{take-append-drop, append_assoc}
 use Rattle.std.proofs.lemmas.List.Elements.{recursion_from_All}
-use Rattle.definitions.specs.Sets.{crosses, SetValue, FamilyValue, ScaledValue, cells_of, sides_of, cells_at, set_side, IsSet, IsHierarchy, IsBihierarchy}
+use Rattle.definitions.specs.Sets.{crosses, SetValue, FamilyValue, ScaledValue, cells_of, sides_of, cells_at, set_side, IsSet, NoCrossing, IsHierarchy, IsBihierarchy}
 use Rattle.definitions.specs.Values.{ProblemValue, IsProblem, IsStatedSet, column_count, stated_sets, row_sets}
 use Rattle.definitions.specs.Fairness.{guarded_family}
-use Rattle.definitions.proofs.Families.{set_of_number}
+use Rattle.definitions.proofs.Families.{set_of_number, bihierarchy_of_apart}
 use Rattle.definitions.proofs.Lists.{each_at}
 use Rattle.certificate_laws.proofs.PrefixSets.{added_sets}
 use Rattle.certificate_laws.proofs.GuardedFamily.{IsRowSet, fronts_apart, each_append, rows_are, added_are}
@@ -25,9 +25,9 @@ side_by_number f k q e =
     ap (λ j. slice_index (sides_of f) j) index ∙ get_or_from_slice_get (sides_of f) k q.side 0 (slice_get-map (λ (s : SetValue). s.side) f.sets k ∙ ap (option_map (λ (s : SetValue). s.side)) e)
 
 -- no two sets of one side cross, set by set
-pub bihierarchy_by_sets : (f : FamilyValue)
-    → ((j k : ℕ) (q r : SetValue) → slice_get f.sets j ≡ Some q → slice_get f.sets k ≡ Some r → q.side ≡ r.side → crosses q.cells r.cells ≡ true → ⊥) → IsBihierarchy f
-bihierarchy_by_sets f h s t known knows same cross =
+apart_by_sets : (f : FamilyValue)
+    → ((j k : ℕ) (q r : SetValue) → slice_get f.sets j ≡ Some q → slice_get f.sets k ≡ Some r → q.side ≡ r.side → crosses q.cells r.cells ≡ true → ⊥) → NoCrossing (cells_of f) (sides_of f)
+apart_by_sets f h s t known knows same cross =
     let is = set_of_number f s known in
     let are = set_of_number f t knows in
     let none : SetValue = record { side = 0; floor = 0; ceiling = 0; cells = [] } in
@@ -79,7 +79,7 @@ in_family p k q e = ap (λ sets. slice_get sets k) (sym (take-append-drop p.stat
 
 -- where no two stated sets cross, the guarded family is a bihierarchy
 pub guarded_apart : (p : ProblemValue) (x : ScaledValue) → IsProblem p → IsHierarchy p.family 2 → IsBihierarchy (guarded_family p x)
-guarded_apart p x h two = bihierarchy_by_sets (guarded_family p x) apart
+guarded_apart p x h two = bihierarchy_of_apart (guarded_family p x) (apart_by_sets (guarded_family p x) apart)
   where
     others : AllByRecursion (IsRowSet p) (row_sets (column_count p) p.demands ++ added_sets p x)
     others = each_append (IsRowSet p) (row_sets (column_count p) p.demands) (added_sets p x) (rows_are p 0 p.demands) (added_are p x (range_with_len 0 (length p.lists)))

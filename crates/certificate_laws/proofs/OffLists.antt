@@ -14,7 +14,7 @@ use Rattle.definitions.specs.Assignment.{IsRandomAssignment, Dominates}
 use Rattle.definitions.specs.Certificate.{Certifies}
 use Rattle.definitions.proofs.Members.{number_test, member_at}
 use Rattle.definitions.proofs.Sums.{sum_same_all}
-use Rattle.certificate_laws.proofs.Listed.{row_on_list, column_listed}
+use Rattle.definitions.proofs.Listed.{row_on_list, column_listed}
 use Rattle.certificate_laws.proofs.Limits.{IsKept}
 use Rattle.certificate_laws.proofs.Dominance.{undominated}
 

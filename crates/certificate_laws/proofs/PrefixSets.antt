@@ -1,9 +1,9 @@
 -- The sets of first places that the guarded family adds: what they hold, and what a matrix has there.
 use Rattle.std.proofs.Common.{◌≡◌, ℕ, suc, zero, ◌+◌, ◌<◌, ◌≤◌, List, [], ◌∷◌, ◌++◌, map, length, take, refl, ap, sym, ◌∙◌, arith, Bool, true, false, cond, filter, inl, inr, subst}
 use Rattle.std.specs.Prelude.{sum_by, flat_map, nat_eq}
-use Rattle.std.specs.List.{AllByRecursion, IsDistinct, range_with_len}
+use Rattle.std.specs.List.{AllByRecursion, range_with_len}
 use Rattle.std.specs.Set.{is_member}
-use Rattle.std.proofs.lemmas.Bool.{or_parts, or_from, cases_lt}
+use Rattle.std.proofs.lemmas.Bool.{cases_lt}
 use Rattle.std.proofs.lemmas.List.Elements.{recursion_from_All}
 use Rattle.std.proofs.lemmas.List.Sums.{sum_by-cons}
 use Rattle.definitions.specs.declared.Cell.{Cell}
@@ -11,24 +11,11 @@ use Rattle.definitions.specs.Sets.{cell_of, set_sum, prefix_sum, unit_at, Scaled
 use Rattle.definitions.specs.Values.{ProblemValue, IsProblem, column_count, list_at}
 use Rattle.definitions.specs.Rounding.{IsRounded, Rounds}
 use Rattle.definitions.specs.Fairness.{prefix_set, guarded_family}
-use Rattle.definitions.proofs.Members.{number_test, distinct_first, distinct_rest, distinct_none, distinct_more}
+use Rattle.definitions.proofs.Members.{number_test, distinct_take}
 use Rattle.definitions.proofs.Sums.{restrict, unit_at_past}
 use Rattle.definitions.proofs.Lists.{each_mapped, each_of_front, each_of_rest}
 use Rattle.definitions.proofs.Ranges.{distinct_range, member_of_range}
 use Rattle.definitions.proofs.Problems.{list_distinct}
-
-member_of_front : {X : Type 0} (same : X → X → Bool) (k : ℕ) (xs : List X) (x : X) → is_member same xs x ≡ false → is_member same (take k xs) x ≡ false
-member_of_front same zero xs x e = refl
-member_of_front same (suc k) [] x e = refl
-member_of_front same (suc k) (z ∷ xs) x e =
-    let parts = or_parts (same x z) (is_member same xs x) e in or_from (same x z) (is_member same (take k xs) x) parts.0 (member_of_front same k xs x parts.1)
-
--- the front of a list without repeats has none
-front_distinct : {X : Type 0} (same : X → X → Bool) (k : ℕ) (xs : List X) → IsDistinct same xs → IsDistinct same (take k xs)
-front_distinct same zero xs d = distinct_none same
-front_distinct same (suc k) [] d = distinct_none same
-front_distinct same (suc k) (x ∷ xs) d =
-    distinct_more same x (take k xs) (member_of_front same k xs x (distinct_first same x xs d)) (front_distinct same k xs (distinct_rest same x xs d))
 
 -- a sum over the cells of a part of a row that pass a test of their column
 sum_of_part : (x : Cell → ℕ) (i : ℕ) (test : ℕ → Bool) (columns : List ℕ)
@@ -50,7 +37,7 @@ prefix_set_sum p x m i k h =
     let front = take k (list_at p i) in
     let units = λ (a : ℕ). unit_at (column_count p) m (cell_of i a) in
     sum_of_part (unit_at n m) i (λ a. is_member nat_eq front a) (range_with_len 0 n)
-    ∙ sym (restrict nat_eq number_test units front (range_with_len 0 n) (front_distinct nat_eq k (list_at p i) (list_distinct p i h)) (distinct_range 0 n) off)
+    ∙ sym (restrict nat_eq number_test units front (range_with_len 0 n) (distinct_take nat_eq k (list_at p i) (list_distinct p i h)) (distinct_range 0 n) off)
   where
     off : (a : ℕ) → cond (is_member nat_eq (range_with_len 0 (column_count p)) a) (unit_at (column_count p) m (cell_of i a)) 0 ≡ unit_at (column_count p) m (cell_of i a)
     off a = elim (cases_lt a (column_count p)) [

@@ -1,12 +1,18 @@
-//! Laws on certified assignments and on the utility guard: each is the contract of a function that does nothing.
+//! Laws on certified assignments, on the utility guard and on the recipe's numbers: each is the contract of a function that does
+//! nothing.
 //!
 //! They speak of the definitions alone, of assignments over any denominators, and stand in `specs/`. Beside each,
 //! `proofs/` has it as a lemma for proofs in other crates: `no_more_worth` (Duality), `more_worth` and `undominated`
-//! (Dominance), `undominated_off_lists` (OffLists), `sums_near` (GuardBound), `guarded_apart` (GuardedSides).
+//! (Dominance), `undominated_off_lists` (OffLists), `sums_near` (GuardBound), `guarded_apart` (GuardedSides),
+//! `places_from_recipe` and `recipe_from_places` (RecipeWorths), `prices_are` and `same_recipe` (RecipePrices).
 #![tactic(auto)]
+
+mod recipe;
 
 ghost use Rattle.certificate_laws.specs.Certified.{DualityBound, DominanceRaisesWorth, NoDominance, NoDominanceOffLists};
 ghost use Rattle.certificate_laws.specs.Guarded.{GuardBound, GuardedIsBihierarchy};
+
+pub use recipe::{one_recipe, prices_by_sets, worths_by_places};
 
 /// No assignment is worth more than a certified one: if prices and worths certify a random assignment over `d`, then
 /// every random assignment over any `e` has a sum of worth times share that is no greater. Shares are units over the

@@ -7,7 +7,7 @@ use Rattle.std.proofs.Math.Nat.{mul-add, mul-div_cancel', dvd-mul_right, dvd-mul
 use Rattle.std.proofs.lemmas.Bool.{cases_lt}
 use Rattle.std.proofs.lemmas.List.Sums.{count_by-le-length}
 use Rattle.definitions.specs.Values.{Market}
-use Rattle.definitions.specs.Eating.{moment_at, eaten_by, slot_cells, slot_ceiling, demand_sum, IsEatingTable, IsLowestTerms, IsPartialTable}
+use Rattle.definitions.specs.Eating.{moment_at, eaten_by, limit_cells, limit_ceiling, demand_sum, IsEatingTable, IsLowestTerms, IsPartialTable}
 use Rattle.frac128.specs.Measure.{HasMeasure, common_measure, factor_positive}
 use Rattle.eating_laws.proofs.Sums.{speed_of, speed_le, eaten_rate, eaten_multiple}
 use Rattle.eating_laws.proofs.Right.{IsRightBelow, eating_right, partial_right}
@@ -86,27 +86,27 @@ module _ (market : Market) (D r : ℕ) (e ms : List ℕ) (h : IsRightBelow marke
 
   module _ (t : ℕ) (within : suc t < r) (b : IsBoundedBelow D (demand_sum market) (suc t) e ms) (j : ℕ) (l : j < length e) (at : moment_at e j ≡ suc t) where
     abbrev speed : ℕ
-    speed = speed_of market D e b.last (slot_cells market j)
+    speed = speed_of market D e b.last (limit_cells market j)
 
     last_within : b.last ≤ t
     last_within = (let k : b.last ≤ suc t - 1 = b.last_below in omega arith)
 
     -- between the last moment and this one the set is eaten at its speed
-    eaten_now : eaten_by market D e (slot_cells market j) (suc t) ≡ eaten_by market D e (slot_cells market j) b.last + speed * (suc t - b.last)
+    eaten_now : eaten_by market D e (limit_cells market j) (suc t) ≡ eaten_by market D e (limit_cells market j) b.last + speed * (suc t - b.last)
     eaten_now =
         let p = last_within in
         let sum : b.last + (suc t - b.last) ≡ suc t = omega arith in
-        subst (λ n. eaten_by market D e (slot_cells market j) n ≡ eaten_by market D e (slot_cells market j) b.last + speed * (suc t - b.last)) sum
-        (eaten_rate market D b.last (suc t - b.last) e (slot_cells market j) (let reach : r ≤ D = h.reach in omega arith) (λ i k. side i k (cases_lt (moment_at e i) (suc t))))
+        subst (λ n. eaten_by market D e (limit_cells market j) n ≡ eaten_by market D e (limit_cells market j) b.last + speed * (suc t - b.last)) sum
+        (eaten_rate market D b.last (suc t - b.last) e (limit_cells market j) (let reach : r ≤ D = h.reach in omega arith) (λ i k. side i k (cases_lt (moment_at e i) (suc t))))
       where
         side : (i : ℕ) → i < length e → (moment_at e i < suc t) ⊎ (suc t ≤ moment_at e i) → (moment_at e i ≤ b.last) ⊎ (b.last + (suc t - b.last) ≤ moment_at e i)
         side i k (inl less) = inl (b.last_most i k less)
         side i k (inr more) = inr (let p = last_within in omega arith)
 
-    full_now : eaten_by market D e (slot_cells market j) (suc t) ≡ slot_ceiling market j * D
+    full_now : eaten_by market D e (limit_cells market j) (suc t) ≡ limit_ceiling market j * D
     full_now = (h.right (suc t) within).now j l at
 
-    open_before : eaten_by market D e (slot_cells market j) b.last < slot_ceiling market j * D
+    open_before : eaten_by market D e (limit_cells market j) b.last < limit_ceiling market j * D
     open_before = (let p = last_within in (h.right b.last (omega arith)).later j l (omega arith))
 
     speed_positive : 0 < speed
@@ -120,11 +120,11 @@ module _ (market : Market) (D r : ℕ) (e ms : List ℕ) (h : IsRightBelow marke
     part_divides =
         let p = last_within in
         let reach : r ≤ D = h.reach in
-        let in_whole : b.part ∣ slot_ceiling market j * D = dvd-mul_left_of_dvd b.part (subst (λ n. b.part ∣ n) b.whole (dvd-mul_right b.part b.rest)) (slot_ceiling market j) in
+        let in_whole : b.part ∣ limit_ceiling market j * D = dvd-mul_left_of_dvd b.part (subst (λ n. b.part ∣ n) b.whole (dvd-mul_right b.part b.rest)) (limit_ceiling market j) in
         let end : b.last ≡ min b.last D = omega arith in
-        let in_before : b.part ∣ eaten_by market D e (slot_cells market j) b.last =
-        eaten_multiple market b.part D b.last e (slot_cells market j) (subst (λ n. b.part ∣ n) end b.divides_last) (λ i k. number i k (cases_lt (moment_at e i) (suc t))) in
-        let gone : slot_ceiling market j * D - eaten_by market D e (slot_cells market j) b.last ≡ speed * (suc t - b.last) = (let a = eaten_now in let f = full_now in omega (arith, a, f)) in
+        let in_before : b.part ∣ eaten_by market D e (limit_cells market j) b.last =
+        eaten_multiple market b.part D b.last e (limit_cells market j) (subst (λ n. b.part ∣ n) end b.divides_last) (λ i k. number i k (cases_lt (moment_at e i) (suc t))) in
+        let gone : limit_ceiling market j * D - eaten_by market D e (limit_cells market j) b.last ≡ speed * (suc t - b.last) = (let a = eaten_now in let f = full_now in omega (arith, a, f)) in
         let in_rest : b.part ∣ speed * (suc t - b.last) = subst (λ n. b.part ∣ n) gone (dvd-sub b.part in_whole in_before) in
         let in_last : b.part ∣ speed * b.last = dvd-mul_left_of_dvd b.part b.divides_last speed in
         let sum : speed * (suc t - b.last) + speed * b.last ≡ speed * suc t = sym (mul-add speed (suc t - b.last) b.last) ∙ ap (λ n. speed * n) (let s : suc t - b.last + b.last ≡ suc t = omega arith in s) in
@@ -174,7 +174,7 @@ module _ (market : Market) (D r : ℕ) (e ms : List ℕ) (h : IsRightBelow marke
         unit_small =
             let divides : measure.unit ∣ speed = subst (λ n. measure.unit ∣ n) measure.whole (dvd-mul_left measure.unit measure.factor) in
             let le : measure.unit ≤ speed = le_of_dvd speed_positive divides in
-            omega (arith, le, speed_le market D b.last e (slot_cells market j))
+            omega (arith, le, speed_le market D b.last e (limit_cells market j))
 
         number : (i : ℕ) → i < length e → moment_at e i < suc t + 1 → (moment_at e i < suc t) ⊎ (suc t ≤ moment_at e i) → measure.factor' ∣ moment_at e i
         number i k m (inl less) = dvd_trans measure.factor' before_divides (b.divides i k less)

@@ -4,10 +4,10 @@ use Rattle.std.specs.Prelude.{min, max, nat_eq, take, sum_by, ◌==◌, ◌||◌
 use Rattle.std.specs.List.{AllByRecursion, IsDistinct}
 use Rattle.std.specs.Set.{is_member}
 use Rattle.std.proofs.Math.Nat.{mul-sub}
-use Rattle.std.proofs.lemmas.Bool.{or_left, or_from, or_parts, eq-eqb}
+use Rattle.std.proofs.lemmas.Bool.{or_left, or_parts, eq-eqb}
 use Rattle.std.proofs.lemmas.List.Sums.{sum_by_more}
 use Rattle.definitions.specs.Eating.{eaten_along, reached}
-use Rattle.definitions.proofs.Members.{number_test, distinct_first, distinct_rest, distinct_none, distinct_more}
+use Rattle.definitions.proofs.Members.{number_test, distinct_first, distinct_rest, distinct_take}
 use Rattle.definitions.proofs.Sums.{sum_zero, sum_of_sums, single}
 use Rattle.eating_laws.proofs.Line.{along_same, along_none, along_all, counted}
 
@@ -24,19 +24,6 @@ sum_columns d full from t (a ∷ list) xs h =
     sum_of_sums (λ x. cond (a == x) (d * n) 0) (λ x. eaten_along d full (λ b. b == x) m t list) xs in
     let here : sum_by (λ x. cond (a == x) (d * n) 0) xs ≡ cond (is_member nat_eq xs a) (d * n) 0 = single nat_eq number_test (λ _. d * n) a xs h in
     omega (arith, split, here, sum_columns d full m t list xs h)
-
-pub member_take : (k : ℕ) (list : List ℕ) (a : ℕ) → is_member nat_eq list a ≡ false → is_member nat_eq (take k list) a ≡ false
-member_take zero list a h = refl
-member_take (suc k) [] a h = refl
-member_take (suc k) (b ∷ list) a h =
-    let parts = or_parts (nat_eq a b) (is_member nat_eq list a) h in
-    or_from (nat_eq a b) (is_member nat_eq (take k list) a) parts.0 (member_take k list a parts.1)
-
-pub distinct_take : (k : ℕ) (list : List ℕ) → IsDistinct nat_eq list → IsDistinct nat_eq (take k list)
-distinct_take zero list h = distinct_none nat_eq
-distinct_take (suc k) [] h = distinct_none nat_eq
-distinct_take (suc k) (a ∷ list) h =
-    distinct_more nat_eq a (take k list) (member_take k list a (distinct_first nat_eq a list h)) (distinct_take k list (distinct_rest nat_eq a list h))
 
 -- an absent number is none of the list's
 pub absent : (a : ℕ) (list : List ℕ) → is_member nat_eq list a ≡ false → AllByRecursion (λ b. nat_eq b a ≡ false) list
@@ -76,7 +63,7 @@ pub front_sum : (d : ℕ) (full : ℕ → ℕ) (t k : ℕ) (list : List ℕ) →
     → sum_by (λ x. eaten_along d full (λ b. b == x) 0 t list) (take k list) ≡ d * min t (reached full 0 (take k list))
 front_sum d full t k list h =
     let last : min t (reached full 0 (take k list)) - min t 0 ≡ min t (reached full 0 (take k list)) = omega arith in
-    sum_columns d full 0 t list (take k list) (distinct_take k list h) ∙ along_front d full 0 t k list h ∙ along_all d full 0 t (take k list) ∙ ap (λ n. d * n) last
+    sum_columns d full 0 t list (take k list) (distinct_take nat_eq k list h) ∙ along_front d full 0 t k list h ∙ along_all d full 0 t (take k list) ∙ ap (λ n. d * n) last
 
 -- the column at one place
 pub at_place : (d : ℕ) (full : ℕ → ℕ) (t k : ℕ) (list : List ℕ) → IsDistinct nat_eq list → k < length list

@@ -6,15 +6,15 @@ use Rattle.std.specs.Set.{is_member}
 use Rattle.std.proofs.lemmas.Bool.{cases_lt, cases_Bool, both_ways, or_cases, eqb-true}
 use Rattle.std.proofs.lemmas.List.Elements.{recursion_from_All, All-weaker}
 use Rattle.definitions.specs.Sets.{cell_of, holds, prefix_sum, ScaledValue, units_of}
-use Rattle.definitions.specs.Values.{Limit, ProblemValue, IsProblem, market_of, limits_of, list_at, demand_at}
+use Rattle.definitions.specs.Values.{Limit, ProblemValue, IsProblem, market_of, limits_of, list_at, demand_at, column_count}
 use Rattle.definitions.specs.Eating.{full_at, reached, eaten_along, share, IsAssignmentOf}
 use Rattle.definitions.specs.Fairness.{IsAlike, Envies}
+use Rattle.definitions.proofs.Members.{member_take, distinct_take}
 use Rattle.definitions.proofs.Sums.{sum_same}
 use Rattle.definitions.proofs.Problems.{agent_of, list_lawful}
-use Rattle.eating_laws.specs.Shares.{IsMatrixFor}
 use Rattle.eating_laws.proofs.Line.{along_within, reached_from}
 use Rattle.eating_laws.proofs.Full.{full_le, full_alike, full_never}
-use Rattle.eating_laws.proofs.Columns.{sum_columns, distinct_take, member_take}
+use Rattle.eating_laws.proofs.Columns.{sum_columns}
 use Rattle.eating_laws.proofs.Limits.{none_free}
 use Rattle.eating_laws.proofs.Shares.{share_is, prefix_share}
 use Rattle.eating_laws.proofs.Assignment.{units_are_shares}
@@ -59,7 +59,7 @@ member_within n (b ∷ list) a h k = elim (or_cases (nat_eq a b) (is_member nat_
 member_of_front : (k : ℕ) (list : List ℕ) (a : ℕ) → is_member nat_eq (take k list) a ≡ true → is_member nat_eq list a ≡ true
 member_of_front k list a h = elim (cases_Bool (is_member nat_eq list a)) [
   | inl found ↦ found
-  | inr missing ↦ absurd (both_ways (is_member nat_eq (take k list) a) (member_take k list a missing) h)
+  | inr missing ↦ absurd (both_ways (is_member nat_eq (take k list) a) (member_take nat_eq k list a missing) h)
 ]
 
 -- of the first k columns of i's list, j has no more than i
@@ -74,7 +74,7 @@ no_more_than_own p D e i j k h l l' alike =
     prefix_share (market_of p) D e i k (record { demand = demand_at p i; list = list_at p i }) (agent_of p i h l) lawful.apart in
     let other : sum_by (share (market_of p) D e j) front ≡ eaten_along (demand_at p j) full' (is_member nat_eq front) 0 D (list_at p j) =
     sum_same (share (market_of p) D e j) (λ a. eaten_along (demand_at p j) full' (λ b. b == a) 0 D (list_at p j)) front (λ a. share_is (market_of p) D e j a (record { demand = demand_at p j; list = list_at p j }) (agent_of p j h l'))
-    ∙ sum_columns (demand_at p j) full' 0 D (list_at p j) front (distinct_take k (list_at p i) lawful.apart) in
+    ∙ sum_columns (demand_at p j) full' 0 D (list_at p j) front (distinct_take nat_eq k (list_at p i) lawful.apart) in
     let within : eaten_along (demand_at p j) full' (is_member nat_eq front) 0 D (list_at p j) ≤ demand_at p j * (max 0 (min D (reached full 0 front)) - 0) =
     along_within (demand_at p j) full' (is_member nat_eq front) (min D (reached full 0 front)) 0 D (list_at p j)
     (λ a m. by_then full full' a (full_same p D e i j a h alike (member_within (length p.objects) (list_at p i) a (recursion_from_All (λ b. b ≤ length p.objects) (list_at p i) lawful.known) (member_of_front k (list_at p i) a m))) (full_le D (limits_of p) e i a) (reached_member full 0 front a m)) in
@@ -87,12 +87,12 @@ no_more_than_own p D e i j k h l l' alike =
     by_then full full' a e p q = omega arith
 
 -- no agent envies one who is alike
-pub no_envy : (p : ProblemValue) (x : ScaledValue) (e : List ℕ) (i j : ℕ) → IsProblem p → IsMatrixFor p x → IsAssignmentOf (market_of p) x.denominator e x
+pub no_envy : (p : ProblemValue) (x : ScaledValue) (e : List ℕ) (i j : ℕ) → IsProblem p → IsAssignmentOf (column_count p) (market_of p) x.denominator e x
     → i < length p.agents → j < length p.agents → IsAlike p i j → Envies p (units_of x) i j → ⊥
-no_envy p x e i j h m a l l' alike (k, inside, more) =
+no_envy p x e i j h a l l' alike (k, inside, more) =
     let D = x.denominator in
     let front = take k (list_at p i) in
-    let own : prefix_sum (units_of x) i (list_at p i) k ≡ sum_by (share (market_of p) D e i) front = sum_same (λ b. units_of x (cell_of i b)) (share (market_of p) D e i) front (λ b. units_are_shares p x e h m a (cell_of i b)) in
-    let other : prefix_sum (units_of x) j (list_at p i) k ≡ sum_by (share (market_of p) D e j) front = sum_same (λ b. units_of x (cell_of j b)) (share (market_of p) D e j) front (λ b. units_are_shares p x e h m a (cell_of j b)) in
+    let own : prefix_sum (units_of x) i (list_at p i) k ≡ sum_by (share (market_of p) D e i) front = sum_same (λ b. units_of x (cell_of i b)) (share (market_of p) D e i) front (λ b. units_are_shares p x e h a (cell_of i b)) in
+    let other : prefix_sum (units_of x) j (list_at p i) k ≡ sum_by (share (market_of p) D e j) front = sum_same (λ b. units_of x (cell_of j b)) (share (market_of p) D e j) front (λ b. units_are_shares p x e h a (cell_of j b)) in
     let bound = no_more_than_own p D e i j k h l l' alike in
     omega (arith, own, other, bound, more)

@@ -1,22 +1,13 @@
 -- A random assignment of a lawful problem is feasible for the problem's family.
-use Rattle.std.proofs.Common.{◌≡◌, ℕ, suc, ◌+◌, ◌*◌, ◌<◌, ◌≤◌, List, [], ◌∷◌, ◌++◌, length, map, take, drop, get_or, ap, sym, ◌∙◌, subst, arith}
+use Rattle.std.proofs.Common.{◌≡◌, ℕ, suc, ◌+◌, ◌*◌, ◌<◌, ◌≤◌, List, [], ◌∷◌, ◌++◌, length, take, drop, get_or, ap, sym, subst, arith}
 use Rattle.std.specs.Prelude.{All, slice_index}
 use Rattle.std.specs.List.{AllByRecursion, enumerate_from}
-use Rattle.std.proofs.lemmas.List.{take-append-drop, get_or_append_left, get_or-map, length-map, length-append}
+use Rattle.std.proofs.lemmas.List.{take-append-drop}
 use Rattle.std.proofs.lemmas.List.Elements.{All-append, All-map, All-same, All-from_recursion}
 use Rattle.definitions.specs.Sets.{set_sum, row_cells, SetValue, ScaledValue, units_of, IsSetFeasible, IsFeasible}
-use Rattle.definitions.specs.Values.{Limit, ProblemValue, IsProblem, IsStatedSet, stated_sets, limits_of, row_sets, column_count, capped_limits, market_agents}
+use Rattle.definitions.specs.Values.{ProblemValue, IsProblem, IsStatedSet, stated_sets, row_sets, column_count}
 use Rattle.definitions.specs.Assignment.{IsRandomAssignment}
-use Rattle.definitions.proofs.Problems.{limit_of}
-
--- a property of each limit is one of each stated set's
-stated_each : (P : Limit → Type 0) (p : ProblemValue) → All P (limits_of p) → All (λ (s : SetValue). P (limit_of s)) (stated_sets p)
-stated_each P p h k d l =
-    let capped = capped_limits 0 (market_agents p.demands p.lists) in
-    let mapped : k < length (map limit_of (stated_sets p)) = omega (arith, l, length-map (stated_sets p) limit_of) in
-    let here : get_or (limits_of p) k (limit_of d) ≡ limit_of (get_or (stated_sets p) k d) =
-    get_or_append_left (map limit_of (stated_sets p)) capped (limit_of d) k mapped ∙ get_or-map limit_of (stated_sets p) k d (limit_of d) l in
-    subst P here (h k (limit_of d) (omega (arith, mapped, length-append (map limit_of (stated_sets p)) capped)))
+use Rattle.definitions.proofs.Capped.{each_stated}
 
 rows_each : (P : ℕ × ℕ → Type 0) (s : ℕ) (demands : List ℕ) → ((k : ℕ) → k < length demands → P (s + k, slice_index demands k)) → AllByRecursion P (enumerate_from s demands)
 rows_each P s [] h = tt
@@ -36,7 +27,7 @@ random_feasible p x h a =
     stated k d l =
         let s : SetValue = get_or (stated_sets p) k d in
         let lawful : IsStatedSet (length p.objects) s = h.stated_lawful k d l in
-        let bound : set_sum (units_of x) s.cells ≤ s.ceiling * x.denominator = stated_each (λ q. set_sum (units_of x) q.cells ≤ q.ceiling * x.denominator) p a.kept k d l in
+        let bound : set_sum (units_of x) s.cells ≤ s.ceiling * x.denominator = each_stated (λ q. set_sum (units_of x) q.cells ≤ q.ceiling * x.denominator) p a.kept k d l in
         (let none : s.floor * x.denominator ≡ 0 * x.denominator = ap (λ n. n * x.denominator) lawful.floor in omega (arith, none), bound)
 
     rows : All (IsSetFeasible x) (row_sets (column_count p) p.demands)

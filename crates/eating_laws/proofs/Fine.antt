@@ -5,7 +5,7 @@ use Rattle.std.proofs.Math.Nat.{mul-add, mul_left_comm, mul-lt-mul_of_pos_left, 
 use Rattle.std.proofs.lemmas.Bool.{cases_lt, cases_order}
 use Rattle.std.proofs.lemmas.List.{length-map}
 use Rattle.definitions.specs.Values.{Market}
-use Rattle.definitions.specs.Eating.{eaten_by, moment_at, slot_cells, slot_ceiling, IsEatingTable, IsPartialTable}
+use Rattle.definitions.specs.Eating.{eaten_by, moment_at, limit_cells, limit_ceiling, IsEatingTable, IsPartialTable}
 use Rattle.eating_laws.proofs.Full.{moments_scaled}
 use Rattle.eating_laws.proofs.Sums.{eaten_scale}
 use Rattle.eating_laws.proofs.Right.{IsRightAt, IsRightBelow, eating_right, right_eating, partial_right, right_partial}
@@ -41,7 +41,7 @@ same_place c x s r h e = elim (cases_order x s) [
 
 -- a table that is right at a moment is right at the finer moments after it
 pub right_scale : (market : Market) (c D s r : ℕ) (e : List ℕ) → r < c → IsRightAt market D e s
-    → (0 < r → (j : ℕ) → j < length e → s < moment_at e j → eaten_by market D e (slot_cells market j) (s + 1) ≤ slot_ceiling market j * D)
+    → (0 < r → (j : ℕ) → j < length e → s < moment_at e j → eaten_by market D e (limit_cells market j) (s + 1) ≤ limit_ceiling market j * D)
     → IsRightAt market (c * D) (map (λ x. c * x) e) (c * s + r)
 right_scale market c D s r e h at next = record {
   later = λ j l k. later j (inside l) (subst (λ x. c * s + r < x) (moments_scaled c e j) k);
@@ -51,26 +51,26 @@ right_scale market c D s r e h at next = record {
     inside : {j : ℕ} → j < length (map (λ x. c * x) e) → j < length e
     inside {j} l = omega (arith, l, length-map e (λ x. c * x))
 
-    eaten_is : (j : ℕ) → eaten_by market (c * D) (map (λ x. c * x) e) (slot_cells market j) (c * s + r)
-        ≡ (c - r) * eaten_by market D e (slot_cells market j) s + r * eaten_by market D e (slot_cells market j) (s + 1)
-    eaten_is j = eaten_scale market c D s r e (slot_cells market j) (omega arith)
+    eaten_is : (j : ℕ) → eaten_by market (c * D) (map (λ x. c * x) e) (limit_cells market j) (c * s + r)
+        ≡ (c - r) * eaten_by market D e (limit_cells market j) s + r * eaten_by market D e (limit_cells market j) (s + 1)
+    eaten_is j = eaten_scale market c D s r e (limit_cells market j) (omega arith)
 
-    full_is : (j : ℕ) → slot_ceiling market j * (c * D) ≡ c * (slot_ceiling market j * D)
-    full_is j = mul_left_comm (slot_ceiling market j) c D
+    full_is : (j : ℕ) → limit_ceiling market j * (c * D) ≡ c * (limit_ceiling market j * D)
+    full_is j = mul_left_comm (limit_ceiling market j) c D
 
-    later : (j : ℕ) → j < length e → c * s + r < c * moment_at e j → eaten_by market (c * D) (map (λ x. c * x) e) (slot_cells market j) (c * s + r) < slot_ceiling market j * (c * D)
+    later : (j : ℕ) → j < length e → c * s + r < c * moment_at e j → eaten_by market (c * D) (map (λ x. c * x) e) (limit_cells market j) (c * s + r) < limit_ceiling market j * (c * D)
     later j l k =
         let before : s < moment_at e j = below_from_product c s (moment_at e j) r k in
-        let mixed = mixed_below c r (eaten_by market D e (slot_cells market j) s) (eaten_by market D e (slot_cells market j) (s + 1)) (slot_ceiling market j * D) h (at.later j l before) (λ p. next p j l before) in
+        let mixed = mixed_below c r (eaten_by market D e (limit_cells market j) s) (eaten_by market D e (limit_cells market j) (s + 1)) (limit_ceiling market j * D) h (at.later j l before) (λ p. next p j l before) in
         omega (arith, mixed, eaten_is j, full_is j)
 
-    now : (j : ℕ) → j < length e → c * moment_at e j ≡ c * s + r → eaten_by market (c * D) (map (λ x. c * x) e) (slot_cells market j) (c * s + r) ≡ slot_ceiling market j * (c * D)
+    now : (j : ℕ) → j < length e → c * moment_at e j ≡ c * s + r → eaten_by market (c * D) (map (λ x. c * x) e) (limit_cells market j) (c * s + r) ≡ limit_ceiling market j * (c * D)
     now j l k =
         let same : moment_at e j ≡ s = same_place c (moment_at e j) s r h k in
         let none : r ≡ 0 = (let f : c * moment_at e j ≡ c * s = ap (λ x. c * x) same in omega arith) in
         let full = at.now j l same in
-        let whole : (c - r) * eaten_by market D e (slot_cells market j) s ≡ c * (slot_ceiling market j * D) = ap (λ x. (c - r) * x) full ∙ ap (λ x. x * (slot_ceiling market j * D)) (let f : c - r ≡ c = omega arith in f) in
-        let rest : r * eaten_by market D e (slot_cells market j) (s + 1) ≡ 0 * eaten_by market D e (slot_cells market j) (s + 1) = ap (λ x. x * eaten_by market D e (slot_cells market j) (s + 1)) none in
+        let whole : (c - r) * eaten_by market D e (limit_cells market j) s ≡ c * (limit_ceiling market j * D) = ap (λ x. (c - r) * x) full ∙ ap (λ x. x * (limit_ceiling market j * D)) (let f : c - r ≡ c = omega arith in f) in
+        let rest : r * eaten_by market D e (limit_cells market j) (s + 1) ≡ 0 * eaten_by market D e (limit_cells market j) (s + 1) = ap (λ x. x * eaten_by market D e (limit_cells market j) (s + 1)) none in
         omega (arith, whole, rest, eaten_is j, full_is j)
 
 -- a finer moment, as a whole moment and what is left
@@ -112,7 +112,7 @@ scale_right market c D m e h r = record {
         later : (s l : ℕ) → 0 < l → c * s + l ≤ c * m → s + 1 ≤ m
         later s l p k = (let f : s < m = below_from_product c s m 0 (omega arith) in omega arith)
 
-        next : (s j : ℕ) → j < length e → s < moment_at e j → s + 1 ≤ m → eaten_by market D e (slot_cells market j) (s + 1) ≤ slot_ceiling market j * D
+        next : (s j : ℕ) → j < length e → s < moment_at e j → s + 1 ≤ m → eaten_by market D e (limit_cells market j) (s + 1) ≤ limit_ceiling market j * D
         next s j l k w = (let at = r.right (s + 1) (omega arith) in elim (cases_lt (s + 1) (moment_at e j)) [
           | inl less ↦ (let f = at.later j l less in omega (arith, f))
           | inr more ↦ (let f = at.now j l (omega arith) in omega (arith, f))
@@ -143,10 +143,10 @@ scale_eating market c D e h r =
     eq_of_product : (x : ℕ) → c * x ≡ c * D → x ≡ D
     eq_of_product x k = same_place c x D 0 h (omega arith)
 
-    next : (s j : ℕ) → j < length e → s < moment_at e j → eaten_by market D e (slot_cells market j) (s + 1) ≤ slot_ceiling market j * D
+    next : (s j : ℕ) → j < length e → s < moment_at e j → eaten_by market D e (limit_cells market j) (s + 1) ≤ limit_ceiling market j * D
     next s j l k = elim (cases_lt (s + 1) (moment_at e j)) [
       | inl less ↦ (let f = r.before j (s + 1) l less in omega (arith, f))
-      | inr more ↦ (let same : moment_at e j ≡ s + 1 = omega arith in subst (λ x. eaten_by market D e (slot_cells market j) x ≤ slot_ceiling market j * D) same (r.kept j l))
+      | inr more ↦ (let same : moment_at e j ≡ s + 1 = omega arith in subst (λ x. eaten_by market D e (limit_cells market j) x ≤ limit_ceiling market j * D) same (r.kept j l))
     ]
 
     right : (t : ℕ) → t < c * D → IsFiner c t → IsRightAt market (c * D) (map (λ x. c * x) e) t
@@ -155,15 +155,15 @@ scale_eating market c D e h r =
         subst (λ x. IsRightAt market (c * D) (map (λ x. c * x) e) x) f.parts
         (right_scale market c D f.whole f.left e f.below (base.right f.whole early) (λ p j l k. next f.whole j l k))
 
-    last : (j : ℕ) → j < length e → moment_at e j ≡ D → eaten_by market (c * D) (map (λ x. c * x) e) (slot_cells market j) (c * D) ≤ slot_ceiling market j * (c * D)
+    last : (j : ℕ) → j < length e → moment_at e j ≡ D → eaten_by market (c * D) (map (λ x. c * x) e) (limit_cells market j) (c * D) ≤ limit_ceiling market j * (c * D)
     last j l k =
-        let kept : eaten_by market D e (slot_cells market j) D ≤ slot_ceiling market j * D = subst (λ x. eaten_by market D e (slot_cells market j) x ≤ slot_ceiling market j * D) k (r.kept j l) in
-        let scaled = eaten_scale market c D D 0 e (slot_cells market j) (omega arith) in
+        let kept : eaten_by market D e (limit_cells market j) D ≤ limit_ceiling market j * D = subst (λ x. eaten_by market D e (limit_cells market j) x ≤ limit_ceiling market j * D) k (r.kept j l) in
+        let scaled = eaten_scale market c D D 0 e (limit_cells market j) (omega arith) in
         let end : c * D + 0 ≡ c * D = omega arith in
         let all : c - 0 ≡ c = omega arith in
-        let whole = ap (λ x. x * eaten_by market D e (slot_cells market j) D) all in
-        let at_end = ap (λ x. eaten_by market (c * D) (map (λ x. c * x) e) (slot_cells market j) x) end in
-        omega (arith, scaled, whole, at_end, mul-le-mul_left c kept, mul_left_comm (slot_ceiling market j) c D)
+        let whole = ap (λ x. x * eaten_by market D e (limit_cells market j) D) all in
+        let at_end = ap (λ x. eaten_by market (c * D) (map (λ x. c * x) e) (limit_cells market j) x) end in
+        omega (arith, scaled, whole, at_end, mul-le-mul_left c kept, mul_left_comm (limit_ceiling market j) c D)
 
 -- a table up to a moment times a factor is one
 pub scale_partial : (market : Market) (c D m : ℕ) (e : List ℕ) → 1 ≤ c → IsPartialTable market D m e → IsPartialTable market (c * D) (c * m) (map (λ x. c * x) e)

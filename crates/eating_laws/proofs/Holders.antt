@@ -5,15 +5,15 @@ use Rattle.std.proofs.lemmas.Bool.{cases_Bool, eqb-true, eq-eqb}
 use Rattle.std.proofs.lemmas.List.Sums.{sum_by-cons, get_or-le-sum_by}
 use Rattle.definitions.specs.Sets.{cell_of, holds}
 use Rattle.definitions.specs.Values.{Market}
-use Rattle.definitions.specs.Eating.{full_at, moment_at, slot_cells}
+use Rattle.definitions.specs.Eating.{full_at, moment_at, limit_cells}
 use Rattle.eating_laws.proofs.Full.{full_le, full_below, full_from}
 
--- the slots of the limits that hold the cell, each once
+-- the indexes of the limits that hold the cell, each once
 pub record IsHolders (market : Market) (i a : ℕ) (holders : List ℕ) : Type 0 where
   pub inside : All (λ h. h < length market.limits) holders
-  pub once : (j : ℕ) → j < length market.limits → count_by (λ h. h == j) holders ≡ (if holds (slot_cells market j) (cell_of i a) then 1 else 0)
+  pub once : (j : ℕ) → j < length market.limits → count_by (λ h. h == j) holders ≡ (if holds (limit_cells market j) (cell_of i a) then 1 else 0)
 
--- the least of D and the numbers at these slots
+-- the least of D and the numbers at these indexes
 unfoldable pub least_of : ℕ → List ℕ → List ℕ → ℕ
 least_of D e [] = D
 least_of D e (h ∷ holders) = min (moment_at e h) (least_of D e holders)
@@ -54,9 +54,9 @@ full_holders market D e holders i a size h =
     (λ k l. full_below D market.limits e i a (get_or holders k 0) (let w = h.inside k 0 l in omega (arith, w, size)) (held k l)) in
     omega arith
   where
-    held : (k : ℕ) → k < length holders → holds (slot_cells market (get_or holders k 0)) (cell_of i a) ≡ true
+    held : (k : ℕ) → k < length holders → holds (limit_cells market (get_or holders k 0)) (cell_of i a) ≡ true
     held k l =
         let j = get_or holders k 0 in
         let self = ap {B = ℕ} (λ b. cond b 1 0) (eq-eqb j j refl) in
         let there : cond {A = ℕ} (j == j) 1 0 ≤ count_by (λ x. x == j) holders = get_or-le-sum_by (λ x. cond (x == j) 1 0) holders k 0 l in
-        bit_of (holds (slot_cells market j) (cell_of i a)) (omega (arith, self, there, h.once j (h.inside k 0 l)))
+        bit_of (holds (limit_cells market j) (cell_of i a)) (omega (arith, self, there, h.once j (h.inside k 0 l)))

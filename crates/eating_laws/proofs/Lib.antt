@@ -9,6 +9,7 @@ pub mod Holders
 pub mod Limits
 pub mod Line
 pub mod Moments
+pub mod Places
 pub mod Right
 pub mod Shares
 pub mod Sums

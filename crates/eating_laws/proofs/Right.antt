@@ -4,13 +4,13 @@ use Rattle.std.specs.Prelude.{min, ◌⊎◌}
 use Rattle.std.proofs.lemmas.Bool.{cases_lt, cases_order}
 use Rattle.std.proofs.lemmas.List.{get_or_past}
 use Rattle.definitions.specs.Values.{Market}
-use Rattle.definitions.specs.Eating.{eaten_by, moment_at, slot_cells, slot_ceiling, IsEatingTable, IsPartialTable}
+use Rattle.definitions.specs.Eating.{eaten_by, moment_at, limit_cells, limit_ceiling, IsEatingTable, IsPartialTable}
 use Rattle.eating_laws.proofs.Sums.{eaten_cut}
 
 -- at moment t the table is right: a limit with a later number isn't full, and one with this number is full
 pub record IsRightAt (market : Market) (D : ℕ) (e : List ℕ) (t : ℕ) : Type 0 where
-  pub later : (j : ℕ) → j < length e → t < moment_at e j → eaten_by market D e (slot_cells market j) t < slot_ceiling market j * D
-  pub now : (j : ℕ) → j < length e → moment_at e j ≡ t → eaten_by market D e (slot_cells market j) t ≡ slot_ceiling market j * D
+  pub later : (j : ℕ) → j < length e → t < moment_at e j → eaten_by market D e (limit_cells market j) t < limit_ceiling market j * D
+  pub now : (j : ℕ) → j < length e → moment_at e j ≡ t → eaten_by market D e (limit_cells market j) t ≡ limit_ceiling market j * D
 
 -- each number is below n or is D, and below n the table is right
 pub record IsRightBelow (market : Market) (D n : ℕ) (e : List ℕ) : Type 0 where
@@ -29,7 +29,7 @@ eating_right market D e h = record {
   said = λ j l. (let k : moment_at e j ≤ D = h.within j l in split k);
   right = λ t below. record {
     later = λ j l k. h.before j t l k;
-    now = λ j l k. subst (λ x. eaten_by market D e (slot_cells market j) x ≡ slot_ceiling market j * D) k (h.full j l (subst (λ x. x < D) (sym k) below));
+    now = λ j l k. subst (λ x. eaten_by market D e (limit_cells market j) x ≡ limit_ceiling market j * D) k (h.full j l (subst (λ x. x < D) (sym k) below));
   };
 }
   where
@@ -38,7 +38,7 @@ eating_right market D e h = record {
 
 -- and a table that is right below its end is an eating table, if what fills at the end isn't passed there
 pub right_eating : (market : Market) (D : ℕ) (e : List ℕ) → IsRightBelow market D D e
-    → ((j : ℕ) → j < length e → moment_at e j ≡ D → eaten_by market D e (slot_cells market j) D ≤ slot_ceiling market j * D) → IsEatingTable market D e
+    → ((j : ℕ) → j < length e → moment_at e j ≡ D → eaten_by market D e (limit_cells market j) D ≤ limit_ceiling market j * D) → IsEatingTable market D e
 right_eating market D e h last = record {
   positive = h.positive;
   size = h.size;
@@ -51,9 +51,9 @@ right_eating market D e h last = record {
     within : (j : ℕ) → j < length e → moment_at e j ≤ D
     within j l = elim (h.said j l) [ inl less ↦ omega arith | inr same ↦ omega arith ]
 
-    kept : (j : ℕ) → j < length e → (moment_at e j < D) ⊎ (moment_at e j ≡ D) → eaten_by market D e (slot_cells market j) (moment_at e j) ≤ slot_ceiling market j * D
+    kept : (j : ℕ) → j < length e → (moment_at e j < D) ⊎ (moment_at e j ≡ D) → eaten_by market D e (limit_cells market j) (moment_at e j) ≤ limit_ceiling market j * D
     kept j l (inl less) = (let k = (h.right (moment_at e j) less).now j l refl in omega (arith, k))
-    kept j l (inr same) = subst (λ x. eaten_by market D e (slot_cells market j) x ≤ slot_ceiling market j * D) (sym same) (last j l same)
+    kept j l (inr same) = subst (λ x. eaten_by market D e (limit_cells market j) x ≤ limit_ceiling market j * D) (sym same) (last j l same)
 
 -- a table up to a moment is right up to it
 pub partial_right : (market : Market) (D m : ℕ) (e : List ℕ) → IsPartialTable market D m e → IsRightBelow market D (m + 1) e
@@ -64,7 +64,7 @@ partial_right market D m e h = record {
   said = λ j l. said (h.said j l);
   right = λ t below. record {
     later = λ j l k. h.before j t l (omega arith) k;
-    now = λ j l k. subst (λ x. eaten_by market D e (slot_cells market j) x ≡ slot_ceiling market j * D) k (h.full j l (let b : moment_at e j ≤ m = omega arith in b));
+    now = λ j l k. subst (λ x. eaten_by market D e (limit_cells market j) x ≡ limit_ceiling market j * D) k (h.full j l (let b : moment_at e j ≤ m = omega arith in b));
   };
 }
   where
@@ -110,13 +110,13 @@ agree market D n n' e e' h h' zero k k' j = omega arith
 agree market D n n' e e' h h' (suc t) k k' j =
     let same : length e ≡ length e' = h.size ∙ sym h'.size in
     let before : (i : ℕ) → min t (moment_at e i) ≡ min t (moment_at e' i) = agree market D n n' e e' h h' t (omega arith) (omega arith) in
-    let eaten = eaten_cut market D t t e e' (slot_cells market j) same before (omega arith) in
+    let eaten = eaten_cut market D t t e e' (limit_cells market j) same before (omega arith) in
     elim (cases_lt j (length e)) [
       | inl inside ↦
           let at = h.right t (omega arith) in
           let at' = h'.right t (omega arith) in
           let inside' : j < length e' = omega arith in
-          one_more t (moment_at e j) (moment_at e' j) (eaten_by market D e (slot_cells market j) t) (eaten_by market D e' (slot_cells market j) t) (slot_ceiling market j * D)
+          one_more t (moment_at e j) (moment_at e' j) (eaten_by market D e (limit_cells market j) t) (eaten_by market D e' (limit_cells market j) t) (limit_ceiling market j * D)
           (before j) (at.now j inside) (at.later j inside) (at'.now j inside') (at'.later j inside') eaten
       | inr past ↦ ap (λ x. min (suc t) x) (get_or_past e j 0 past ∙ sym (get_or_past e' j 0 (omega arith)))
     ]

@@ -5,11 +5,12 @@ use Rattle.std.specs.List.{AllByRecursion, IsDistinct, range_with_len}
 use Rattle.std.specs.Set.{is_member}
 use Rattle.std.proofs.lemmas.Bool.{eq-eqb, ne_eqb}
 use Rattle.std.proofs.lemmas.Option.{slice_get_past}
+use Rattle.std.proofs.lemmas.List.Sums.{sum_by-cons}
 use Rattle.definitions.specs.declared.Cell.{Cell}
 use Rattle.definitions.specs.Sets.{cell_of, holds, same_cell, set_sum}
 use Rattle.definitions.specs.Values.{Limit, Agent, Market}
-use Rattle.definitions.specs.Eating.{full_at, eaten_along, eaten_from, eaten_by, reached, share, moment_at, slot_cells, slot_ceiling, no_agent, IsEatingTable}
-use Rattle.definitions.proofs.Members.{cell_test}
+use Rattle.definitions.specs.Eating.{full_at, eaten_along, eaten_from, eaten_by, reached, share, moment_at, limit_cells, limit_ceiling, no_agent, IsEatingTable}
+use Rattle.definitions.proofs.Members.{cell_test, distinct_none, distinct_more}
 use Rattle.definitions.proofs.Sums.{sum_same, sum_zero, sum_of_sums, single}
 use Rattle.definitions.proofs.Ranges.{member_of_range, distinct_range}
 use Rattle.eating_laws.proofs.Line.{along_same, along_all, reached_from}
@@ -100,67 +101,75 @@ agent_cells i d full from t (a ∷ list) cells h =
     both true q x y = refl
     both false q x y = refl
 
--- the share of a cell, as a sum over the agents from i on
-unfoldable shares_from : ℕ → List Limit → List ℕ → ℕ → List Agent → Cell → ℕ
-shares_from D limits e i [] c = 0
-shares_from D limits e i (w ∷ agents) c =
-    cond (i == c.agent) (eaten_along w.demand (full_at D limits e i) (λ b. b == c.object) 0 D w.list) 0 + shares_from D limits e (i + 1) agents c
+-- what is eaten of a cell by moment t, as a sum over the agents from i on
+unfoldable units_from : ℕ → ℕ → List Limit → List ℕ → ℕ → List Agent → Cell → ℕ
+units_from D t limits e i [] c = 0
+units_from D t limits e i (w ∷ agents) c =
+    cond (i == c.agent) (eaten_along w.demand (full_at D limits e i) (λ b. b == c.object) 0 t w.list) 0 + units_from D t limits e (i + 1) agents c
 
-shares_before : (D : ℕ) (limits : List Limit) (e : List ℕ) (i : ℕ) (agents : List Agent) (c : Cell) → c.agent < i → shares_from D limits e i agents c ≡ 0
-unfolding shares_from
-shares_before D limits e i [] c h = refl
-shares_before D limits e i (w ∷ agents) c h =
+units_before : (D t : ℕ) (limits : List Limit) (e : List ℕ) (i : ℕ) (agents : List Agent) (c : Cell) → c.agent < i → units_from D t limits e i agents c ≡ 0
+unfolding units_from
+units_before D t limits e i [] c h = refl
+units_before D t limits e i (w ∷ agents) c h =
     let other : nat_eq i c.agent ≡ false = ne_eqb i c.agent (λ k. absurd (omega arith)) in
-    let none : cond (i == c.agent) (eaten_along w.demand (full_at D limits e i) (λ b. b == c.object) 0 D w.list) 0 ≡ 0 =
-    ap (λ t. cond t (eaten_along w.demand (full_at D limits e i) (λ b. b == c.object) 0 D w.list) 0) other in
-    omega (arith, none, shares_before D limits e (i + 1) agents c (omega arith))
+    let none : cond (i == c.agent) (eaten_along w.demand (full_at D limits e i) (λ b. b == c.object) 0 t w.list) 0 ≡ 0 =
+    ap (λ b. cond b (eaten_along w.demand (full_at D limits e i) (λ b. b == c.object) 0 t w.list) 0) other in
+    omega (arith, none, units_before D t limits e (i + 1) agents c (omega arith))
 
-shares_at : (D : ℕ) (limits : List Limit) (e : List ℕ) (i k : ℕ) (agents : List Agent) (c : Cell) → i + k ≡ c.agent
-    → shares_from D limits e i agents c ≡ (let v : Agent = unwrap_or (slice_get agents k) no_agent in eaten_along v.demand (full_at D limits e c.agent) (λ b. b == c.object) 0 D v.list)
-unfolding shares_from eaten_along
-shares_at D limits e i k [] c h = refl
-shares_at D limits e i zero (w ∷ agents) c h =
+units_at : (D t : ℕ) (limits : List Limit) (e : List ℕ) (i k : ℕ) (agents : List Agent) (c : Cell) → i + k ≡ c.agent
+    → units_from D t limits e i agents c ≡ (let v : Agent = unwrap_or (slice_get agents k) no_agent in eaten_along v.demand (full_at D limits e c.agent) (λ b. b == c.object) 0 t v.list)
+unfolding units_from eaten_along
+units_at D t limits e i k [] c h = refl
+units_at D t limits e i zero (w ∷ agents) c h =
     let here : i ≡ c.agent = omega arith in
     let test : nat_eq i c.agent ≡ true = eq-eqb i c.agent here in
-    let head : cond (i == c.agent) (eaten_along w.demand (full_at D limits e i) (λ b. b == c.object) 0 D w.list) 0 ≡ eaten_along w.demand (full_at D limits e c.agent) (λ b. b == c.object) 0 D w.list =
-    ap (λ t. cond t (eaten_along w.demand (full_at D limits e i) (λ b. b == c.object) 0 D w.list) 0) test
-    ∙ ap (λ k. eaten_along w.demand (full_at D limits e k) (λ b. b == c.object) 0 D w.list) here in
-    omega (arith, head, shares_before D limits e (i + 1) agents c (omega arith))
-shares_at D limits e i (suc k) (w ∷ agents) c h =
+    let head : cond (i == c.agent) (eaten_along w.demand (full_at D limits e i) (λ b. b == c.object) 0 t w.list) 0 ≡ eaten_along w.demand (full_at D limits e c.agent) (λ b. b == c.object) 0 t w.list =
+    ap (λ b. cond b (eaten_along w.demand (full_at D limits e i) (λ b. b == c.object) 0 t w.list) 0) test
+    ∙ ap (λ k. eaten_along w.demand (full_at D limits e k) (λ b. b == c.object) 0 t w.list) here in
+    omega (arith, head, units_before D t limits e (i + 1) agents c (omega arith))
+units_at D t limits e i (suc k) (w ∷ agents) c h =
     let other : nat_eq i c.agent ≡ false = ne_eqb i c.agent (λ k. absurd (omega arith)) in
-    let none : cond (i == c.agent) (eaten_along w.demand (full_at D limits e i) (λ b. b == c.object) 0 D w.list) 0 ≡ 0 =
-    ap (λ t. cond t (eaten_along w.demand (full_at D limits e i) (λ b. b == c.object) 0 D w.list) 0) other in
-    ap (λ n. n + shares_from D limits e (i + 1) agents c) none ∙ (let plain : 0 + shares_from D limits e (i + 1) agents c ≡ shares_from D limits e (i + 1) agents c = omega arith in plain)
-    ∙ shares_at D limits e (i + 1) k agents c (omega arith)
+    let none : cond (i == c.agent) (eaten_along w.demand (full_at D limits e i) (λ b. b == c.object) 0 t w.list) 0 ≡ 0 =
+    ap (λ b. cond b (eaten_along w.demand (full_at D limits e i) (λ b. b == c.object) 0 t w.list) 0) other in
+    ap (λ n. n + units_from D t limits e (i + 1) agents c) none ∙ (let plain : 0 + units_from D t limits e (i + 1) agents c ≡ units_from D t limits e (i + 1) agents c = omega arith in plain)
+    ∙ units_at D t limits e (i + 1) k agents c (omega arith)
 
-sums_from : (D : ℕ) (limits : List Limit) (e : List ℕ) (cells : List Cell) (i : ℕ) (agents : List Agent) → IsDistinct same_cell cells
-    → sum_by (shares_from D limits e i agents) cells ≡ eaten_from D limits e cells D i agents
-unfolding shares_from eaten_from
-sums_from D limits e cells i [] h = sum_zero cells
-sums_from D limits e cells i (w ∷ agents) h =
-    let split : sum_by (λ (c : Cell). cond (i == c.agent) (eaten_along w.demand (full_at D limits e i) (λ b. b == c.object) 0 D w.list) 0 + shares_from D limits e (i + 1) agents c) cells
-    ≡ sum_by (λ (c : Cell). cond (i == c.agent) (eaten_along w.demand (full_at D limits e i) (λ b. b == c.object) 0 D w.list) 0) cells + sum_by (shares_from D limits e (i + 1) agents) cells =
-    sum_of_sums (λ (c : Cell). cond (i == c.agent) (eaten_along w.demand (full_at D limits e i) (λ b. b == c.object) 0 D w.list) 0) (shares_from D limits e (i + 1) agents) cells in
-    omega (arith, split, agent_cells i w.demand (full_at D limits e i) 0 D w.list cells h, sums_from D limits e cells (i + 1) agents h)
+sums_from : (D t : ℕ) (limits : List Limit) (e : List ℕ) (cells : List Cell) (i : ℕ) (agents : List Agent) → IsDistinct same_cell cells
+    → sum_by (units_from D t limits e i agents) cells ≡ eaten_from D limits e cells t i agents
+unfolding units_from eaten_from
+sums_from D t limits e cells i [] h = sum_zero cells
+sums_from D t limits e cells i (w ∷ agents) h =
+    let split : sum_by (λ (c : Cell). cond (i == c.agent) (eaten_along w.demand (full_at D limits e i) (λ b. b == c.object) 0 t w.list) 0 + units_from D t limits e (i + 1) agents c) cells
+    ≡ sum_by (λ (c : Cell). cond (i == c.agent) (eaten_along w.demand (full_at D limits e i) (λ b. b == c.object) 0 t w.list) 0) cells + sum_by (units_from D t limits e (i + 1) agents) cells =
+    sum_of_sums (λ (c : Cell). cond (i == c.agent) (eaten_along w.demand (full_at D limits e i) (λ b. b == c.object) 0 t w.list) 0) (units_from D t limits e (i + 1) agents) cells in
+    omega (arith, split, agent_cells i w.demand (full_at D limits e i) 0 t w.list cells h, sums_from D t limits e cells (i + 1) agents h)
+
+-- what is eaten of one cell is what its agent eats of its column
+pub eaten_of_cell : (market : Market) (D : ℕ) (e : List ℕ) (t : ℕ) (c : Cell)
+    → eaten_by market D e (c ∷ []) t ≡ (let v : Agent = unwrap_or (slice_get market.agents c.agent) no_agent in eaten_along v.demand (full_at D market.limits e c.agent) (λ b. b == c.object) 0 t v.list)
+unfolding eaten_by
+eaten_of_cell market D e t c =
+    let one = sums_from D t market.limits e (c ∷ []) 0 market.agents (distinct_more same_cell c [] refl (distinct_none same_cell)) in
+    omega (arith, one, sum_by-cons (units_from D t market.limits e 0 market.agents) c []) ∙ units_at D t market.limits e 0 c.agent market.agents c (omega arith)
 
 -- the shares of the cells of a set are what is eaten of it in the end
 pub sum_is_eaten : (market : Market) (D : ℕ) (e : List ℕ) (cells : List Cell) → IsDistinct same_cell cells
     → set_sum (λ c. share market D e c.agent c.object) cells ≡ eaten_by market D e cells D
 unfolding eaten_by
 sum_is_eaten market D e cells h =
-    sum_same (λ c. share market D e c.agent c.object) (shares_from D market.limits e 0 market.agents) cells
-    (λ c. sym (shares_at D market.limits e 0 c.agent market.agents c (omega arith)))
-    ∙ sums_from D market.limits e cells 0 market.agents h
+    sum_same (λ c. share market D e c.agent c.object) (units_from D D market.limits e 0 market.agents) cells
+    (λ c. sym (units_at D D market.limits e 0 c.agent market.agents c (omega arith)))
+    ∙ sums_from D D market.limits e cells 0 market.agents h
 
 -- a set that is full stays full
-pub eaten_after : (market : Market) (D t : ℕ) (e : List ℕ) (j : ℕ) → j < length e → moment_at e j ≤ t → eaten_by market D e (slot_cells market j) t ≡ eaten_by market D e (slot_cells market j) (moment_at e j)
+pub eaten_after : (market : Market) (D t : ℕ) (e : List ℕ) (j : ℕ) → j < length e → moment_at e j ≤ t → eaten_by market D e (limit_cells market j) t ≡ eaten_by market D e (limit_cells market j) (moment_at e j)
 eaten_after market D t e j l k =
-    eaten_by_stays market D (moment_at e j) t e (slot_cells market j) k (λ i a in_set. full_below D market.limits e i a j l in_set)
+    eaten_by_stays market D (moment_at e j) t e (limit_cells market j) k (λ i a in_set. full_below D market.limits e i a j l in_set)
 
 -- no set of an eating table is above its ceiling in the end
-pub eaten_within : (market : Market) (D : ℕ) (e : List ℕ) → IsEatingTable market D e → (j : ℕ) → j < length e → eaten_by market D e (slot_cells market j) D ≤ slot_ceiling market j * D
+pub eaten_within : (market : Market) (D : ℕ) (e : List ℕ) → IsEatingTable market D e → (j : ℕ) → j < length e → eaten_by market D e (limit_cells market j) D ≤ limit_ceiling market j * D
 eaten_within market D e h j l = (let kept = h.kept j l in omega (arith, eaten_after market D D e j l (h.within j l), kept))
 
 -- and a set that is full before the end has all of its ceiling
-pub eaten_whole : (market : Market) (D : ℕ) (e : List ℕ) → IsEatingTable market D e → (j : ℕ) → j < length e → moment_at e j < D → eaten_by market D e (slot_cells market j) D ≡ slot_ceiling market j * D
+pub eaten_whole : (market : Market) (D : ℕ) (e : List ℕ) → IsEatingTable market D e → (j : ℕ) → j < length e → moment_at e j < D → eaten_by market D e (limit_cells market j) D ≡ limit_ceiling market j * D
 eaten_whole market D e h j l k = eaten_after market D D e j l (h.within j l) ∙ h.full j l k

@@ -1,4 +1,5 @@
 pub mod Denominators
+pub mod Places
 pub mod Problems
 pub mod Shares
 pub mod Tables

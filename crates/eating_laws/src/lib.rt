@@ -7,14 +7,13 @@
 #![tactic(auto)]
 
 mod denominator_laws;
+mod place_laws;
 mod problem_laws;
 mod share_laws;
 mod table_laws;
 
 pub use denominator_laws::{bound_on_denominators, no_first_too_fine, one_first_too_fine};
+pub use place_laws::{eaten_by_places, full_from_the_earliest, prefixes_add_up, shares_by_place};
 pub use problem_laws::{no_envy_among_alike, random_assignments_are_feasible};
-pub use share_laws::{
-    eaten_stays, eating_is_an_assignment, prefixes_add_up, rows_add_up, shares_by_place,
-    sums_are_eaten,
-};
+pub use share_laws::{eaten_stays, eating_is_an_assignment, rows_add_up, sums_are_eaten};
 pub use table_laws::{finer_moments, table_is_unique};

@@ -1,20 +1,10 @@
 //! Laws on what the agents have in the end.
 
-ghost use Rattle.eating_laws.specs.Shares.{EatenStays, EatingIsAnAssignment, PrefixesAddUp, RowsAddUp, SharesByPlace, SumsAreEaten};
+ghost use Rattle.eating_laws.specs.Shares.{EatenStays, EatingIsAnAssignment, RowsAddUp, SumsAreEaten};
 
 /// An agent's shares of all columns add up to its demand, where no limit holds the last column of its list.
 pub fn rows_add_up()
     ensures { RowsAddUp }
-{}
-
-/// An agent's shares of the first columns of its list add up to its demand times the moment up to which it eats of them.
-pub fn prefixes_add_up()
-    ensures { PrefixesAddUp }
-{}
-
-/// An agent's share of a column is its demand times the time at which it eats of it, and it has nothing of a column off its list.
-pub fn shares_by_place()
-    ensures { SharesByPlace }
 {}
 
 /// The shares of the cells of a set add up to what is eaten of the set by the end.

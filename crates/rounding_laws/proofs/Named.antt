@@ -10,7 +10,7 @@ use Rattle.definitions.specs.Sets.{cell_of, cell_index, IsCellWithin, unit_at}
 use Rattle.definitions.specs.Values.{PieceValue}
 use Rattle.definitions.specs.Pieces.{WeightedMatrix, Decomposes, weighted, weighted_pieces, piece_count, matrix_of}
 use Rattle.definitions.specs.Tickets.{piece_of, named_units}
-use Rattle.definitions.proofs.Sums.{sum_same, unit_at_within}
+use Rattle.definitions.proofs.Sums.{sum_same, sum_shifted, unit_at_within}
 use Rattle.definitions.proofs.Cells.{index_within}
 use Rattle.definitions.proofs.Tickets.{piece_here, piece_later}
 use Rattle.rounding_laws.proofs.Places.{matrix_at}
@@ -32,13 +32,6 @@ range_parts f s (suc a) b =
     ap (λ n. sum_by f (range_with_len s n)) many
     ∙ omega (arith, sum_by-cons f s (range_with_len (s + 1) (a + b)), sum_by-cons f s (range_with_len (s + 1) a), range_parts f (s + 1) a b, later)
 
-range_shift : (f : ℕ → ℕ) (s w n : ℕ) → sum_by f (range_with_len (s + w) n) ≡ sum_by (λ t. f (t + w)) (range_with_len s n)
-range_shift f s w zero = refl
-range_shift f s w (suc n) =
-    let start : s + w + 1 ≡ s + 1 + w = omega arith in
-    let later : sum_by f (range_with_len (s + w + 1) n) ≡ sum_by f (range_with_len (s + 1 + w) n) = ap (λ k. sum_by f (range_with_len k n)) start in
-    omega (arith, sum_by-cons f (s + w) (range_with_len (s + w + 1) n), sum_by-cons (λ t. f (t + w)) s (range_with_len (s + 1) n), range_shift f (s + 1) w n, later)
-
 range_flat : (f : ℕ → ℕ) (v s n : ℕ) → ((t : ℕ) → t < s + n → f t ≡ v) → sum_by f (range_with_len s n) ≡ n * v
 range_flat f v s zero e = omega arith
 range_flat f v s (suc n) e =
@@ -57,7 +50,7 @@ tickets_sum (w ∷ ws) v =
     let parts : sum_by f (range_with_len 0 (w + sum ws)) ≡ sum_by f (range_with_len 0 w) + sum_by f (range_with_len (0 + w) (sum ws)) = range_parts f 0 w (sum ws) in
     let first : sum_by f (range_with_len 0 w) ≡ w * v 0 = range_flat f (v 0) 0 w (λ t h. ap v (piece_here w ws t (omega arith))) in
     let later : sum_by f (range_with_len (0 + w) (sum ws)) ≡ sum_by (λ t. v (suc (piece_of ws t))) (range_with_len 0 (sum ws)) =
-    range_shift f 0 w (sum ws) ∙ sum_same (λ t. f (t + w)) (λ t. v (suc (piece_of ws t))) (range_with_len 0 (sum ws)) (λ t. ap v (in_later w ws t)) in
+    sum_shifted f 0 w (sum ws) ∙ sum_same (λ t. f (t + w)) (λ t. v (suc (piece_of ws t))) (range_with_len 0 (sum ws)) (λ t. ap v (in_later w ws t)) in
     ap (λ n. sum_by f (range_with_len 0 n)) total ∙ omega (arith, parts, first, later, tickets_sum ws (λ k. v (suc k)))
 
 never_named : (ws : List ℕ) (v : ℕ → ℕ) → ((j : ℕ) → v j ≡ 0) → weighted_from ws v ≡ 0

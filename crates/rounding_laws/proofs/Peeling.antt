@@ -6,7 +6,8 @@ use Rattle.std.proofs.lemmas.List.Elements.{All-nil, All-push}
 use Rattle.std.proofs.lemmas.List.Quantifiers.{all_pairs_push}
 use Rattle.definitions.specs.declared.Cell.{Cell}
 use Rattle.definitions.specs.Rounding.{Rounds, SideSet}
-use Rattle.definitions.specs.Pieces.{WeightedMatrix, PeelerValue, sets_of, IsStep, Peeled, Decomposes}
+use Rattle.definitions.specs.Peelings.{PeelerValue, sets_of, IsStep, Peeled}
+use Rattle.definitions.specs.Pieces.{WeightedMatrix, Decomposes}
 
 -- nothing is taken off yet
 pub peeled_start : (columns total : ℕ) (sets : List (List Cell)) (x : List ℕ) → Peeled columns sets x total x total []

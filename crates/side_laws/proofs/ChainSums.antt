@@ -6,14 +6,15 @@ use Rattle.std.specs.Set.{is_member}
 use Rattle.std.proofs.lemmas.Bool.{and_parts, and_from, eqb-true, eq-eqb}
 use Rattle.definitions.specs.declared.Cell.{Cell}
 use Rattle.definitions.specs.Sets.{SetValue, FamilyValue, IsFamily, same_cell, holds, IsSet, IsCellWithin, set_cells, set_side, set_sum, all_cells}
-use Rattle.definitions.specs.Hierarchies.{IsHolder, TreesValue, AreTreesOf, deepest_at, chain_of}
-use Rattle.definitions.proofs.Members.{number_test, cell_test, member_place}
+use Rattle.definitions.specs.Hierarchies.{IsHolder}
+use Rattle.definitions.specs.Trees.{TreesValue, AreTreesOf, deepest_at, chain_of}
+use Rattle.definitions.proofs.Members.{number_test, cell_test, member_place, member_of_filter, distinct_filter}
 use Rattle.definitions.proofs.Sums.{sum_same_all}
 use Rattle.definitions.proofs.Ranges.{member_of_range, range_of_member, distinct_range}
 use Rattle.definitions.proofs.Cells.{within_is_member, all_within, cells_distinct}
 use Rattle.definitions.proofs.Families.{cells_of_set}
 use Rattle.side_laws.specs.Sums.{is_holder, holders, least_over, AlongChain}
-use Rattle.side_laws.proofs.Members.{same_tests, sum_within, sum_of_members, sum_of_filter, least_of_members, member_of_filter, distinct_filter}
+use Rattle.side_laws.proofs.Members.{same_tests, sum_within, sum_of_members, sum_of_filter, least_of_members}
 use Rattle.side_laws.proofs.Order.{set_distinct}
 use Rattle.side_laws.proofs.Trees.{chain_holds, cell_chain_distinct}
 

@@ -7,7 +7,7 @@ use Rattle.std.proofs.lemmas.Bool.{both_ways, or_cases, or_left, or_right, eqb-t
 use Rattle.std.proofs.lemmas.Option.{same_Some}
 use Rattle.std.proofs.lemmas.List.Sums.{sum_by-cons, count_by-le-length}
 use Rattle.std.proofs.lemmas.List.FromFn.{length-range_with_len}
-use Rattle.definitions.specs.Hierarchies.{climb}
+use Rattle.definitions.specs.Trees.{climb}
 use Rattle.definitions.proofs.Members.{distinct_none, distinct_more}
 use Rattle.definitions.proofs.Ranges.{member_of_range}
 
@@ -190,13 +190,16 @@ module _ (n : ℕ) (lower : ℕ → ℕ → Bool) (parents : List (Option ℕ)) 
       let m = all_met H way k p hp (omega (arith, f, enough)) u hu rest in
       or_right (nat_eq u s) _ (subst (λ o. is_member nat_eq (climb parents k o) u ≡ true) (sym is) m)
 
+  -- from one that has the property on, the way up meets each that has it and is no lower
+  pub climb_meets : (H : ℕ → Type 0) → IsWayUp H → (s : ℕ) → H s → (u : ℕ) → H u → (u ≡ s) ⊎ (lower s u ≡ true) → is_member nat_eq (climb parents n (Some s)) u ≡ true
+  climb_meets H way s h u hu at = let r = way.known s h in all_met H way n s h (beyond_few s r.0 r.1) u hu at
+
   -- the way up from the first has exactly those with the property
   pub climb_has : (H : ℕ → Type 0) → IsWayUp H → (o : Option ℕ) → IsFirstOf H o → (u : ℕ) → is_member nat_eq (climb parents n o) u ≡ true ↔ H u
   climb_has H way None f u =
       (λ m. absurd (both_ways _ (ap (λ l. is_member nat_eq l u) (climb_none parents n)) m), λ h. absurd (f.none refl u h))
   climb_has H way (Some s) f u =
-      let x = f.some s refl in
-      let r = way.known s x.0 in (
+      let x = f.some s refl in (
         λ m. members_keep H (λ v p h e. (way.some v p h e).0) n (Some s) (λ v e. (f.some v e).0) u m,
-        λ h. all_met H way n s x.0 (beyond_few s r.0 r.1) u h (x.1 u h),
+        λ h. climb_meets H way s x.0 u h (x.1 u h),
       )

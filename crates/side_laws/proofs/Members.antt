@@ -1,14 +1,11 @@
 -- Lists with the same members and no repeats: equal sums, equal least numbers; members of a filter.
-use Rattle.std.proofs.Common.{◌≡◌, ℕ, ◌+◌, ◌≤◌, ◌∙◌, List, [], ◌∷◌, Bool, true, false, ◌&&◌, cond, refl, sym, ap, inl, inr, arith}
+use Rattle.std.proofs.Common.{◌≡◌, ℕ, ◌+◌, ◌≤◌, ◌∙◌, List, [], ◌∷◌, Bool, true, false, cond, refl, sym, ap, inl, inr, arith}
 use Rattle.std.specs.Prelude.{nat_eq, min, filter, sum_by}
-use Rattle.std.specs.List.{AllByRecursion, IsDistinct}
+use Rattle.std.specs.List.{IsDistinct}
 use Rattle.std.specs.Set.{is_member}
-use Rattle.std.specs.Cmp.{IsEquivalence}
-use Rattle.std.proofs.lemmas.Bool.{both_ways, or_cases, or_left, or_right, and_left, eqb-true}
-use Rattle.std.proofs.lemmas.List.Elements.{recursion_from_All}
+use Rattle.std.proofs.lemmas.Bool.{both_ways, or_cases, or_left, or_right, eqb-true}
 use Rattle.std.proofs.lemmas.List.Sums.{sum_by-cons}
-use Rattle.std.proofs.lemmas.Map.Made.{is_member-filter}
-use Rattle.definitions.proofs.Members.{IsEqualityTest, number_test, distinct_first, distinct_rest, distinct_none, distinct_more, member_at}
+use Rattle.definitions.proofs.Members.{IsEqualityTest, number_test, all_are_members}
 use Rattle.definitions.proofs.Sums.{sum_same, sum_same_all, restrict}
 use Rattle.side_laws.specs.Sums.{least_over}
 
@@ -27,16 +24,12 @@ cond_within true m v h = ap (λ t. cond t v 0) (h refl)
 cond_within false m v h = refl
 
 module _ {X : Type 0} (eq : X → X → Bool) (t : IsEqualityTest eq) where
-  -- each element is a member
-  pub all_are_members : (xs : List X) → AllByRecursion (λ x. is_member eq xs x ≡ true) xs
-  all_are_members xs = recursion_from_All (λ x. is_member eq xs x ≡ true) xs (λ k d l. member_at eq t xs k d l)
-
   -- a sum over a list without repeats, taken over places that hold it
   pub sum_within : (f : X → ℕ) (xs places : List X) → IsDistinct eq xs → IsDistinct eq places → ((x : X) → is_member eq xs x ≡ true → is_member eq places x ≡ true)
       → sum_by f xs ≡ sum_by (λ q. cond (is_member eq xs q) (f q) 0) places
   sum_within f xs places dx dp inside =
       let g : X → ℕ = λ x. cond (is_member eq places x) (f x) 0 in
-      sum_same_all (λ x. is_member eq xs x ≡ true) f g xs (λ x m. sym (ap (λ b. cond b (f x) 0) (inside x m))) (all_are_members xs)
+      sum_same_all (λ x. is_member eq xs x ≡ true) f g xs (λ x m. sym (ap (λ b. cond b (f x) 0) (inside x m))) (all_are_members eq t xs)
       ∙ restrict eq t g xs places dx dp (λ x. cond_twice (is_member eq places x) (f x))
       ∙ sum_same (λ q. cond (is_member eq xs q) (g q) 0) (λ q. cond (is_member eq xs q) (f q) 0) places (λ q. cond_within (is_member eq xs q) (is_member eq places q) (f q) (inside q))
 
@@ -45,24 +38,7 @@ module _ {X : Type 0} (eq : X → X → Bool) (t : IsEqualityTest eq) where
       → ((x : X) → is_member eq ys x ≡ true → is_member eq xs x ≡ true) → sum_by f xs ≡ sum_by f ys
   sum_of_members f xs ys dx dy there back =
       sum_within f xs ys dx dy there
-      ∙ sum_same_all (λ q. is_member eq ys q ≡ true) (λ q. cond (is_member eq xs q) (f q) 0) f ys (λ q m. ap (λ b. cond b (f q) 0) (back q m)) (all_are_members ys)
-
-  equivalence : IsEquivalence eq
-  equivalence = record { refl = t.self; symm = t.turned; congr = λ x y z e. ap (λ v. eq v z) (t.sound x y e) }
-
-  -- the members of a filter are the members that pass
-  pub member_of_filter : (p : X → Bool) (xs : List X) (x : X) → is_member eq (filter p xs) x ≡ (is_member eq xs x && p x)
-  member_of_filter p xs x = is_member-filter equivalence p x (λ y e. ap p (t.sound x y e)) xs
-
-  distinct_step : (p : X → Bool) (x : X) (xs : List X) (b : Bool) → is_member eq (filter p xs) x ≡ false → IsDistinct eq (filter p xs) → IsDistinct eq (cond b (x ∷ filter p xs) (filter p xs))
-  distinct_step p x xs true off d = distinct_more eq x (filter p xs) off d
-  distinct_step p x xs false off d = d
-
-  -- a filter has no repeats where the list has none
-  pub distinct_filter : (p : X → Bool) (xs : List X) → IsDistinct eq xs → IsDistinct eq (filter p xs)
-  distinct_filter p [] d = distinct_none eq
-  distinct_filter p (x ∷ xs) d =
-      distinct_step p x xs (p x) (member_of_filter p xs x ∙ and_left (is_member eq xs x) (p x) (distinct_first eq x xs d)) (distinct_filter p xs (distinct_rest eq x xs d))
+      ∙ sum_same_all (λ q. is_member eq ys q ≡ true) (λ q. cond (is_member eq xs q) (f q) 0) f ys (λ q m. ap (λ b. cond b (f q) 0) (back q m)) (all_are_members eq t ys)
 
 -- the sum over what passes
 pub sum_of_filter : {X : Type 0} (f : X → ℕ) (p : X → Bool) (xs : List X) → sum_by f (filter p xs) ≡ sum_by (λ x. cond (p x) (f x) 0) xs

@@ -1,31 +1,14 @@
 -- The order of sets by size and number, and what the sets of one side that hold one cell say of it.
-use Rattle.std.proofs.Common.{◌≡◌, ℕ, ◌-◌, ◌<◌, ◌≤◌, ◌⊎◌, ◌↔◌, ◌∙◌, List, [], ◌∷◌, Bool, true, false, not, ◌||◌, ◌&&◌, length, get_or, refl, sym, ap, subst, inl, inr, arith, All}
-use Rattle.std.specs.Prelude.{nat_lt, ◌==◌}
+use Rattle.std.proofs.Common.{◌≡◌, ℕ, ◌-◌, ◌<◌, ◌≤◌, ◌⊎◌, ◌↔◌, ◌∙◌, List, [], ◌∷◌, true, false, not, ◌&&◌, length, get_or, refl, sym, ap, subst, inl, inr, arith, All}
 use Rattle.std.specs.List.{IsDistinct}
-use Rattle.std.proofs.lemmas.Bool.{both_ways, or_cases, or_left, or_right, and_parts, and_from, ltb-true, lt-ltb, eqb-true, eq-eqb, false_from_ne_true, cases_Bool, cases_order, not_from_false}
+use Rattle.std.proofs.lemmas.Bool.{both_ways, or_left, and_from, false_from_ne_true, cases_Bool, cases_order, not_from_false}
 use Rattle.std.proofs.lemmas.List.Sums.{count_by-le-length}
 use Rattle.std.proofs.lemmas.List.Folds.{list_any_at}
 use Rattle.definitions.specs.declared.Cell.{Cell}
 use Rattle.definitions.specs.Sets.{SetValue, FamilyValue, same_cell, holds, overlaps, is_subset, crosses, IsQuotaSet, IsSet, set_cells, set_size, set_side, IsBihierarchy}
 use Rattle.definitions.specs.Hierarchies.{IsLower, IsAbove, IsHolder}
 use Rattle.definitions.proofs.Members.{cell_test, rising_distinct, member_place, all_members, no_larger_holds, common_turned, every_by_count}
-use Rattle.definitions.proofs.Families.{number_of_set, cells_of_set}
-
--- by two sizes and then two numbers
-rank_test : ℕ → ℕ → ℕ → ℕ → Bool
-rank_test a b s t = nat_lt a b || ((a == b) && nat_lt s t)
-
-rank_true : (a b s t : ℕ) → rank_test a b s t ≡ true → (a < b) ⊎ ((a ≡ b) × (s < t))
-unfolding rank_test
-rank_true a b s t h = elim (or_cases (nat_lt a b) ((a == b) && nat_lt s t) h) [
-  | inl l ↦ inl (ltb-true a b l)
-  | inr r ↦ let p = and_parts (a == b) (nat_lt s t) r in inr (eqb-true a b p.0, ltb-true s t p.1)
-]
-
-rank_from : (a b s t : ℕ) → (a < b) ⊎ ((a ≡ b) × (s < t)) → rank_test a b s t ≡ true
-unfolding rank_test
-rank_from a b s t (inl l) = or_left (nat_lt a b) ((a == b) && nat_lt s t) (lt-ltb a b l)
-rank_from a b s t (inr r) = or_right (nat_lt a b) ((a == b) && nat_lt s t) (and_from (a == b) (nat_lt s t) (eq-eqb a b r.0) (lt-ltb s t r.1))
+use Rattle.definitions.proofs.Families.{is_lower, lower_true, cells_of_set, side_of_bihierarchy}
 
 rank_self : (a s : ℕ) → (a < a) ⊎ ((a ≡ a) × (s < s)) → ⊥
 rank_self a s (inl l) = absurd (omega (arith, l))
@@ -42,18 +25,7 @@ rank_cases a b s t = elim (cases_order a b) [
   | inr (inr l) ↦ inr (inl l)
 ]
 
--- s comes before t, as a test
-pub is_lower : FamilyValue → ℕ → ℕ → Bool
-is_lower f s t = rank_test (set_size f s) (set_size f t) s t
-
-pub lower_true : (f : FamilyValue) (s t : ℕ) → is_lower f s t ≡ true → IsLower f s t
-unfolding is_lower
-lower_true f s t h = rank_true (set_size f s) (set_size f t) s t h
-
-pub lower_from : (f : FamilyValue) (s t : ℕ) → IsLower f s t → is_lower f s t ≡ true
-unfolding is_lower
-lower_from f s t h = rank_from (set_size f s) (set_size f t) s t h
-
+-- no number is lower than itself
 pub lower_self : (f : FamilyValue) (s : ℕ) → is_lower f s s ≡ false
 lower_self f s = false_from_ne_true (is_lower f s s) (λ h. rank_self (set_size f s) s (lower_true f s s h))
 
@@ -83,6 +55,11 @@ share_overlaps a b c ha hb =
 pub holds_some : (cells : List Cell) (c : Cell) → holds cells c ≡ true → 0 < length cells
 holds_some [] c h = absurd (both_ways false refl h)
 holds_some (d ∷ cells) c h = omega arith
+
+-- and one that isn't empty has a member
+pub some_held : (cells : List Cell) → 0 < length cells → (c : Cell) × (holds cells c ≡ true)
+some_held [] l = absurd (omega arith)
+some_held (c ∷ cells) l = (c, or_left (same_cell c c) (holds cells c) (cell_test.self c))
 
 -- of two lists that share a cell and don't cross, the first lies within the second if it is no longer
 nested_lists : (a b : List Cell) (c : Cell) → IsDistinct same_cell a → IsDistinct same_cell b → holds a c ≡ true → holds b c ≡ true
@@ -130,14 +107,14 @@ module _ (f : FamilyValue) (lawful : All IsQuotaSet f.sets) where
 
   -- of two sets of one side that hold one cell, the one that comes first lies within the other
   pub nested_at_cell : IsBihierarchy f → (side : ℕ) (c : Cell) (s t : ℕ) → IsHolder f side c s → IsHolder f side c t → IsLower f s t → is_subset (set_cells f s) (set_cells f t) ≡ true
-  nested_at_cell apart side c s t hs ht lower =
+  nested_at_cell both side c s t hs ht lower =
       nested_lists (set_cells f s) (set_cells f t) c (set_distinct f lawful s hs.0) (set_distinct f lawful t ht.0) hs.2 ht.2
-      (apart s t (number_of_set f s hs.0) (number_of_set f t ht.0) (hs.1 ∙ sym ht.1))
+      (side_of_bihierarchy f side lawful both s t hs.0 ht.0 hs.1 ht.1)
       (rank_length (set_size f s) (set_size f t) s t lower)
 
   -- the sets above a set that holds a cell are the holders of its side that come after it
   pub above_at_cell : IsBihierarchy f → (side : ℕ) (c : Cell) (s : ℕ) → IsHolder f side c s → (t : ℕ) → IsAbove f s t ↔ (IsHolder f side c t × IsLower f s t)
-  above_at_cell apart side c s hs t = (
+  above_at_cell both side c s hs t = (
     λ above. ((above.known, sym above.sides ∙ hs.1, all_members same_cell cell_test (holds (set_cells f t)) (set_cells f s) above.contains c hs.2), above_lower s t hs.0 above),
-    λ h. lower_above s t hs.0 h.0.0 (hs.1 ∙ sym h.0.1) (nested_at_cell apart side c s t hs h.0 h.1) h.1,
+    λ h. lower_above s t hs.0 h.0.0 (hs.1 ∙ sym h.0.1) (nested_at_cell both side c s t hs h.0 h.1) h.1,
   )

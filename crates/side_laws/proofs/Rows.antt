@@ -9,7 +9,7 @@ use Rattle.std.proofs.lemmas.List.FromFn.{get_or-enumerate_from, length-enumerat
 use Rattle.definitions.specs.Sets.{SetValue, cell_of, holds, overlaps, is_subset, crosses, row_cells, IsSet, set_cells, set_side, IsHierarchy, IsBihierarchy}
 use Rattle.definitions.specs.Values.{ProblemValue, IsProblem, column_count}
 use Rattle.definitions.proofs.Members.{crosses_self}
-use Rattle.definitions.proofs.Families.{sets_of_problem, bihierarchy_of_sides, no_set, cells_of_set, side_of_set}
+use Rattle.definitions.proofs.Families.{sets_of_problem, no_set, cells_of_set, side_of_set}
 use Rattle.definitions.proofs.Cells.{row_member}
 
 row_overlap : (columns i j s n : ℕ) → list_any (holds (row_cells columns j)) (map (cell_of i) (range_with_len s n)) ≡ true → i ≡ j
@@ -87,4 +87,4 @@ module _ (p : ProblemValue) (h : IsProblem p) where
 
   -- so the family is a bihierarchy where no two stated sets cross
   pub stated_are_enough : IsHierarchy p.family 2 → IsBihierarchy p.family
-  stated_are_enough stated = bihierarchy_of_sides p.family h.family.lawful rows_are_hierarchy stated
+  stated_are_enough stated = (rows_are_hierarchy, stated)

@@ -1,17 +1,18 @@
 -- Chains in the trees of a lawful family.
-use Rattle.std.proofs.Common.{◌≡◌, ℕ, ◌<◌, ◌≤◌, ◌⊎◌, ◌↔◌, ◌∙◌, List, [], ◌∷◌, ◌++◌, Option, Some, None, true, false, refl, sym, subst, inl, inr, arith, All}
+use Rattle.std.proofs.Common.{◌≡◌, ℕ, ◌<◌, ◌≤◌, ◌⊎◌, ◌↔◌, ◌∙◌, List, [], ◌∷◌, ◌++◌, Option, Some, None, true, false, refl, sym, ap, subst, inl, inr, arith, All}
 use Rattle.std.specs.Prelude.{nat_eq}
 use Rattle.std.specs.List.{IsDistinct}
 use Rattle.std.specs.Set.{is_member}
-use Rattle.std.proofs.lemmas.Bool.{both_ways, false_from_ne_true}
+use Rattle.std.proofs.lemmas.Bool.{both_ways, false_from_ne_true, or_cases, or_right, eqb-true}
 use Rattle.std.proofs.lemmas.Option.{MatchOption-at_some, MatchOption-at_none, same_Some}
 use Rattle.definitions.specs.declared.Cell.{Cell}
-use Rattle.definitions.specs.Sets.{FamilyValue, same_cell, holds, is_subset, IsQuotaSet, IsSet, IsCellWithin, set_cells, set_side}
-use Rattle.definitions.specs.Hierarchies.{IsLower, IsParent, HasNoParent, IsHolder, IsDeepest, TreesValue, AreTreesOf, parent_at, deepest_at, chain_of}
+use Rattle.definitions.specs.Sets.{FamilyValue, same_cell, holds, is_subset, IsQuotaSet, IsSet, IsCellWithin, set_cells, set_size, set_side}
+use Rattle.definitions.specs.Hierarchies.{IsLower, IsAbove, IsParent, HasNoParent, IsHolder, IsDeepest}
+use Rattle.definitions.specs.Trees.{TreesValue, AreTreesOf, parent_at, deepest_at, chain_of}
 use Rattle.definitions.proofs.Members.{cell_test, all_members, all_from_members}
-use Rattle.definitions.proofs.Families.{lower_through}
-use Rattle.side_laws.proofs.Chains.{IsUpward, IsWayUp, IsFirstOf, climb_none, climb_step, climb_distinct, climb_has, climb_suffix, members_keep, members_rise, rest_rises}
-use Rattle.side_laws.proofs.Order.{is_lower, lower_true, lower_from, lower_self, above_lower, above_at_cell, holds_some}
+use Rattle.definitions.proofs.Families.{is_lower, lower_true, lower_from, lower_through}
+use Rattle.side_laws.proofs.Chains.{IsUpward, IsWayUp, IsFirstOf, climb_none, climb_step, climb_distinct, climb_has, climb_meets, climb_suffix, members_keep, members_rise, rest_rises}
+use Rattle.side_laws.proofs.Order.{lower_self, above_lower, lower_above, above_at_cell, holds_some, some_held}
 
 -- the chain of no set is empty
 pub chain_none : (t : TreesValue) → chain_of t None ≡ []
@@ -125,6 +126,11 @@ module _ (f : FamilyValue) (lawful : All IsQuotaSet f.sets) (t : TreesValue) (r 
           ]);
     }
 
+    -- from a set that holds the cell on, the chain meets each that holds it and comes after the set
+    pub chain_meets : (s u : ℕ) → IsHolder f side c s → IsHolder f side c u → IsLower f s u → is_member nat_eq (chain_of t (Some s)) u ≡ true
+    unfolding chain_of
+    chain_meets s u hs hu after = climb_meets t.sets (is_lower f) t.parents upward (IsHolder f side c) way_of_cell s hs u hu (inr (lower_from f s u after))
+
     -- the next set that holds the cell is the parent
     pub next_holder : (s p : ℕ) → IsHolder f side c s → parent_at t s ≡ Some p → IsHolder f side c p
     next_holder s p h e = (way_of_cell.some s p h e).0
@@ -164,3 +170,28 @@ module _ (f : FamilyValue) (lawful : All IsQuotaSet f.sets) (t : TreesValue) (r 
       -- from each set of that side that holds the cell on, the chain of the cell is that of the set
       pub holder_suffix : (u : ℕ) → IsHolder f side c u → (front : List ℕ) × (chain_of t (deepest_at t side c) ≡ front ++ chain_of t (Some u))
       holder_suffix u h = chain_suffix (deepest_at t side c) deepest_known u ((chain_holds u).1 h)
+
+  -- the chain of the parent of a set has exactly the sets above the set, and none where the set is empty
+  pub parent_chain_above : (s : ℕ) → IsSet f s → (u : ℕ) → is_member nat_eq (chain_of t (parent_at t s)) u ≡ true ↔ ((0 < set_size f s) × IsAbove f s u)
+  parent_chain_above s known u = (λ m. (filled (parent_at t s) refl m, above m), λ h. met h.0 h.1)
+    where
+      filled : (o : Option ℕ) → parent_at t s ≡ o → is_member nat_eq (chain_of t (parent_at t s)) u ≡ true → 0 < set_size f s
+      filled (Some q) e m = (parent_is s q known e).filled
+      filled None e m = absurd (both_ways (is_member nat_eq (chain_of t (parent_at t s)) u) (ap (λ o. is_member nat_eq (chain_of t o) u) e ∙ ap (λ xs. is_member nat_eq xs u) (chain_none t)) m)
+
+      above : is_member nat_eq (chain_of t (parent_at t s)) u ≡ true → IsAbove f s u
+      above m =
+          let on = ap (λ xs. is_member nat_eq xs u) (chain_step s known) ∙ or_right (nat_eq u s) (is_member nat_eq (chain_of t (parent_at t s)) u) m in
+          let (is_set, sides, contains) = chain_rises s known u on in
+          lower_above f lawful s u known is_set (sym sides) contains (parent_chain_after s known u m)
+
+      met : 0 < set_size f s → IsAbove f s u → is_member nat_eq (chain_of t (parent_at t s)) u ≡ true
+      met some over =
+          let c = some_held (set_cells f s) some in
+          let hs : IsHolder f (set_side f s) c.0 s = (known, refl, c.1) in
+          let hu = ((above_at_cell f lawful r.apart (set_side f s) c.0 s hs u).0 over) in
+          let on = chain_meets (set_side f s) c.0 s u hs hu.0 hu.1 in
+          elim (or_cases (nat_eq u s) (is_member nat_eq (chain_of t (parent_at t s)) u) (sym (ap (λ xs. is_member nat_eq xs u) (chain_step s known)) ∙ on)) [
+            | inl same ↦ absurd (both_ways (is_lower f s s) (lower_self f s) (lower_from f s s (subst (IsLower f s) (eqb-true u s same) hu.1)))
+            | inr later ↦ later
+          ]

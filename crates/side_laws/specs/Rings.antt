@@ -13,8 +13,13 @@ pub record LeavesCrossing (sets : List (List Cell)) (sides : List ℕ) : Type 0 
   pub one_side : slice_index sides (one - 1) ≡ slice_index sides (other - 1)
   pub cross : Cross sets one other
 
--- where there is an odd ring, each list of sides 1 or 2, one for each set, leaves two crossing sets on one side; so there is no colouring
+-- one side for each set, 1 or 2
+abbrev pub AreSidesFor : List (List Cell) → List ℕ → Type 0
+AreSidesFor sets sides = (length sides ≡ length sets) × All (λ s. (s ≡ 1) ⊎ (s ≡ 2)) sides
+
+-- where there is an odd ring, each choice of a side for each set leaves two crossing sets on one side; so there is no
+-- colouring
 abbrev pub OddRingHasNoSides : Type 0
 OddRingHasNoSides = (sets : List (List Cell)) (ring : List ℕ) → IsOddRing sets ring
-    → ((sides : List ℕ) → length sides ≡ length sets → All (λ s. (s ≡ 1) ⊎ (s ≡ 2)) sides → LeavesCrossing sets sides)
+    → ((sides : List ℕ) → AreSidesFor sets sides → LeavesCrossing sets sides)
     × ((sides : List ℕ) → IsColoring sets sides → ⊥)

@@ -5,7 +5,7 @@
 //! a set is 1 or 2; the chain of a set is the set, its parent, and so on up, as two tables of trees give them.
 #![tactic(auto)]
 
-ghost use Rattle.side_laws.specs.Chains.{ChainIsTheHolders, ChainStepsUp};
+ghost use Rattle.side_laws.specs.Chains.{ChainIsTheHolders, ChainIsTheSetsAbove, ChainStepsUp};
 ghost use Rattle.side_laws.specs.Rings.{OddRingHasNoSides};
 ghost use Rattle.side_laws.specs.Sums.{SumsByChains};
 
@@ -19,6 +19,12 @@ pub fn odd_ring_has_no_sides()
 /// empty.
 pub fn chain_steps_up()
     ensures { ChainStepsUp }
+{}
+
+/// In the trees of a lawful family the chain of a set's parent has exactly the sets above the set, each once. So the chain of
+/// a set speaks of no table. Nothing is above an empty set there.
+pub fn chain_is_the_sets_above()
+    ensures { ChainIsTheSetsAbove }
 {}
 
 /// In the trees of a lawful family the chain of a cell's deepest set of a side has exactly the sets of that side that hold

@@ -1,4 +1,5 @@
-// The files of a runtime. Nothing is told of what they hold.
+//! The files of a runtime. Nothing is told of what they hold.
+
 ghost use Rattle.std.specs.Prelude.{◌≡◌, ◌+◌, ◌<◌, ◌≤◌, [], IfSome, OnOk, length, take, None};
 
 use crate::{Files, LoadFault};
@@ -10,8 +11,8 @@ const BLOCK: usize = 8192;
 
 /// The files of a runtime, by their paths.
 ///
-/// Nothing is told of what they hold. A file that can't be opened, and a read that ends in an error,
-/// an interrupted one too, is a fault; nothing is tried again.
+/// Nothing is told of what they hold. A file that can't be opened, and a read that ends in an
+/// error, an interrupted one too, is a fault; nothing is tried again.
 #[derive(Drop)]
 pub struct DiskFiles<'a, R: rt::Files> {
     rt: &'a R,

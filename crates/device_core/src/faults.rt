@@ -1,4 +1,5 @@
-// Why a device refuses.
+//! Why a device refuses. It knows no caller's causes.
+
 use thiserror::Error;
 
 /// Why a file was not loaded.

@@ -1,4 +1,5 @@
-// Devices in memory whose calls fail by a list.
+//! Devices in memory whose calls fail by a list.
+
 ghost use Rattle.std.specs.Prelude.{◌≡◌, ◌+◌, ◌<◌, ◌≤◌, ◌↔◌, [], Some, IsErrOf, IsSome, OnErr, OnOk, length, take};
 ghost use Rattle.device_core.specs.Counts.{LoadCounts, WriteCounts, FlushCounts};
 ghost use Rattle.device_core.specs.Held.{bytes_at};
@@ -24,14 +25,24 @@ impl Model for MemoryFiles {
 
     ghost Value = { MemoryFilesState };
 
-    ghost view = { λ s. record { held = files_of s.files.items; failing = s.failing.items; calls = s.calls; faults = s.faults } };
+    ghost view = { λ s. record {
+      held = files_of s.files.items;
+      failing = s.failing.items;
+      calls = s.calls;
+      faults = s.faults;
+    } };
 }
 
 impl MemoryFiles {
     /// Files with these names and bytes. A load whose number is in `failing` fails, and so does one
     /// of a name that no file has.
     pub fn new(files: Vec<(String, Vec<u8>)>, failing: Vec<u64>) -> MemoryFiles
-        ensures { result ≡ record { held = files_of files.items; failing = failing.items; calls = 0; faults = 0 } }
+        ensures { result ≡ record {
+          held = files_of files.items;
+          failing = failing.items;
+          calls = 0;
+          faults = 0;
+        } }
     {
         MemoryFiles {
             files,
@@ -49,7 +60,8 @@ impl Files for MemoryFiles {
 
     fn load(&mut self, name: &str, limit: usize, into: &mut Vec<u8>) -> Result<(), LoadFault>
         requires { limit < usize.MAX }
-        ensures bytes { OnOk result (into.new.items ≡ take (limit + 1) (bytes_at self.old.held name.now)) }
+        ensures bytes { OnOk result (into.new.items
+            ≡ take (limit + 1) (bytes_at self.old.held name.now)) }
         ensures held { self.new.held ≡ self.old.held }
         ensures bound { length into.new.items ≤ limit + 1 }
         ensures refused { OnErr result (into.new.items ≡ []) }
@@ -89,7 +101,14 @@ impl Model for MemorySink {
 
     ghost Value = { MemorySinkState };
 
-    ghost view = { λ s. record { written = s.bytes.items; flushed = s.flushed; failing = s.failing.items; calls = s.calls; faults = s.faults; short = s.short } };
+    ghost view = { λ s. record {
+      written = s.bytes.items;
+      flushed = s.flushed;
+      failing = s.failing.items;
+      calls = s.calls;
+      faults = s.faults;
+      short = s.short;
+    } };
 }
 
 impl MemorySink {
@@ -97,7 +116,14 @@ impl MemorySink {
     /// as the pair says and fails; a flush whose number is there fails. Of several pairs with one
     /// number the first counts.
     pub fn new(alloc: Global, failing: Vec<(u64, usize)>) -> MemorySink
-        ensures { result ≡ record { written = []; flushed = 0; failing = failing.items; calls = 0; faults = 0; short = 0 } }
+        ensures { result ≡ record {
+          written = [];
+          flushed = 0;
+          failing = failing.items;
+          calls = 0;
+          faults = 0;
+          short = 0;
+        } }
     {
         MemorySink {
             bytes: Vec::new(alloc),
@@ -142,7 +168,8 @@ impl Sink for MemorySink {
         ensures cause { WriteCounts self.old.faults self.new.faults self.old.short self.new.short result }
 
         // Which writes fail, what they keep, and what the next call's number is.
-        ensures answers { WriteAnswers (kept_at self.old.failing self.old.calls) self.old.written self.new.written piece.now result }
+        ensures answers { WriteAnswers (kept_at self.old.failing self.old.calls)
+            self.old.written self.new.written piece.now result }
         ensures next { self.new.calls ≡ next_call self.old.calls }
         ensures failing { self.new.failing ≡ self.old.failing }
     {
@@ -168,7 +195,8 @@ impl Sink for MemorySink {
         ensures cause { FlushCounts self.old.faults self.new.faults self.old.short self.new.short result }
 
         // Which flushes fail, and what the next call's number is.
-        ensures failed { IsErrOf result SinkFault.Failed ↔ IsSome (kept_at self.old.failing self.old.calls) }
+        ensures failed { IsErrOf result SinkFault.Failed
+            ↔ IsSome (kept_at self.old.failing self.old.calls) }
         ensures next { self.new.calls ≡ next_call self.old.calls }
         ensures failing { self.new.failing ≡ self.old.failing }
     {

@@ -1,4 +1,5 @@
-// Files in memory by their names.
+//! Files in memory by their names. Which loads fail is not known here.
+
 ghost use Rattle.std.specs.Prelude.{◌≡◌, ◌+◌, ◌<◌, [], take, length, OnOk, OnErr, IsOkUnless};
 ghost use Rattle.std.specs.Option.{option_copied};
 ghost use Rattle.device_core.specs.Held.{file_at};

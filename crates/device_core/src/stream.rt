@@ -1,7 +1,8 @@
-// A sink over any writer.
+//! A sink over any writer. It has no buffer, and knows no file or terminal.
+
 ghost use Rattle.std.specs.Prelude.{◌≡◌, ℕ, List, None, OnErr, OnOk, IsOkUnless};
-ghost use Rattle.std.specs.Io.KnownBytes.{Appends};
-ghost use Rattle.device_core.specs.Counts.{WriteCounts};
+ghost use Rattle.std.specs.Io.KnownBytes.{Appends, Keeps};
+ghost use Rattle.device_core.specs.Counts.{FlushCounts, WriteCounts};
 ghost use Rattle.device_core.specs.Told.{Appended, IsFrontOf};
 
 use crate::{Sink, SinkFault};
@@ -38,7 +39,8 @@ impl<W: Write + Drop> StdSink<W> {
 
 // Writes the whole piece. Each turn puts out a byte or ends.
 fn write_whole<W: Write>(writer: &mut W, piece: &[u8]) -> Result<(), SinkFault>
-    ensures whole { OnOk result (Appends (W.contents writer.old) (W.contents writer.new) piece.now) }
+    ensures whole { OnOk result (
+        Appends (W.contents writer.old) (W.contents writer.new) piece.now) }
     ensures front { OnErr result ((front : List ℕ) × IsFrontOf front piece.now ×
         Appends (W.contents writer.old) (W.contents writer.new) front) }
     ensures fault { IsOkUnless result SinkFault.Failed }
@@ -67,7 +69,8 @@ impl<W: Write + Drop> Sink for StdSink<W> {
         ensures cause { WriteCounts self.old.faults self.new.faults 0 0 result }
 
         // Where the writer tells what it holds, it got the piece, or after a refusal a front of it.
-        ensures whole { OnOk result (Appends (W.contents self.old.inner) (W.contents self.new.inner) piece.now) }
+        ensures whole { OnOk result (
+            Appends (W.contents self.old.inner) (W.contents self.new.inner) piece.now) }
         ensures front { OnErr result ((front : List ℕ) × IsFrontOf front piece.now ×
             Appends (W.contents self.old.inner) (W.contents self.new.inner) front) }
     {
@@ -80,7 +83,12 @@ impl<W: Write + Drop> Sink for StdSink<W> {
         }
     }
 
-    fn flush(&mut self) -> Result<(), SinkFault> {
+    fn flush(&mut self) -> Result<(), SinkFault>
+        ensures cause { FlushCounts self.old.faults self.new.faults 0 0 result }
+
+        // Where the writer tells what it holds, it holds the same.
+        ensures kept { Keeps (W.contents self.old.inner) (W.contents self.new.inner) }
+    {
         match self.inner.flush() {
             Ok(()) => Ok(()),
             Err(_) => {

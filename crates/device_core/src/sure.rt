@@ -1,4 +1,5 @@
-// Devices in memory that never fail.
+//! Devices in memory that never fail.
+
 ghost use Rattle.std.specs.Prelude.{◌≡◌, [], Some};
 ghost use Rattle.device_core.specs.Memory.{files_of};
 

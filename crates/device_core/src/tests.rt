@@ -1,4 +1,5 @@
-// What the devices do on small files and pieces, and that each call that wants memory succeeds.
+//! What the devices do on small files and pieces, and that each call that wants memory succeeds.
+
 ghost use Rattle.std.specs.Prelude.{◌<◌};
 
 use crate::{
@@ -9,107 +10,42 @@ use std::alloc::{AllocError, Global};
 use std::test::Fail;
 use std::{fs, io};
 
-fn one_file(alloc: Global, name: &str, bytes: &[u8]) -> Result<(String, Vec<u8>), AllocError> {
-    Ok((String::from_str(alloc, name)?, bytes.to_vec(alloc)?))
+fn one_file(alloc: Global) -> Result<Vec<(String, Vec<u8>)>, AllocError> {
+    let file = (String::from_str(alloc, "words")?, b"hello".to_vec(alloc)?);
+    Ok(vec![in alloc; file]?)
 }
 
-fn two_files(alloc: Global) -> Result<Vec<(String, Vec<u8>)>, AllocError> {
-    let first = one_file(alloc, "words", b"hello")?;
-    let second = one_file(alloc, "words", b"later")?;
-    Ok(vec![in alloc; first, second]?)
-}
-
+// The lines at the head of the crate.
 #[test]
-fn a_named_load_fails(rt: HostRuntime) -> Result<(), Fail> {
+fn devices_in_memory(rt: HostRuntime) -> Result<(), Fail> {
     let alloc = rt.alloc();
-    for failing in 0..3u64 {
-        let mut files = MemoryFiles::new(two_files(alloc)?, vec![in alloc; failing]?);
-        let mut into = b"before".to_vec(alloc)?;
-        for call in 0..4u64 {
-            let loaded = files.load("words", 10, &mut into);
-            if call == failing {
-                assert_eq!(rt; loaded, Err(LoadFault::Failed), "call {call}");
-                assert_eq!(rt; into.as_slice(), [].as_slice());
-            } else {
-                assert_eq!(rt; loaded, Ok(()), "call {call}");
-                assert_eq!(rt; into.as_slice(), b"hello".as_slice());
-            }
-        }
-    }
+    let mut files = SureFiles::new(one_file(alloc)?);
+    let mut bytes = Vec::new(alloc);
+    assert_eq!(rt; files.load("words", 3, &mut bytes), Ok(()));
+    assert_eq!(rt; bytes.as_slice(), b"hell".as_slice());
+
+    // The call of number 1 fails once it has kept 2 bytes.
+    let mut sink = MemorySink::new(alloc, vec![in alloc; (1, 2)]?);
+    assert_eq!(rt; sink.write(bytes.as_slice()), Ok(()));
+    assert_eq!(rt; sink.write(b"ish"), Err(SinkFault::Failed));
+    assert_eq!(rt; sink.bytes(), b"hellis".as_slice());
     Ok(())
 }
 
 #[test]
-fn an_absent_name(rt: HostRuntime) -> Result<(), Fail> {
+fn failing_and_sure_devices(rt: HostRuntime) -> Result<(), Fail> {
     let alloc = rt.alloc();
-    let mut into = b"before".to_vec(alloc)?;
-    let mut failing = MemoryFiles::new(two_files(alloc)?, vec![in alloc]?);
-    assert_eq!(rt; failing.load("word", 10, &mut into), Err(LoadFault::Failed));
-    assert_eq!(rt; into.as_slice(), [].as_slice());
-    into.push(1)?;
-    let mut sure = SureFiles::new(two_files(alloc)?);
-    assert_eq!(rt; sure.load("word", 10, &mut into), Ok(()));
-    assert_eq!(rt; into.as_slice(), [].as_slice());
-    Ok(())
-}
+    let mut files = MemoryFiles::new(one_file(alloc)?, vec![in alloc; 0]?);
+    let mut bytes = b"before".to_vec(alloc)?;
+    assert_eq!(rt; files.load("words", 9, &mut bytes), Err(LoadFault::Failed));
+    assert_eq!(rt; bytes.as_slice(), [].as_slice());
+    assert_eq!(rt; files.load("words", 9, &mut bytes), Ok(()));
+    assert_eq!(rt; files.load("word", 9, &mut bytes), Err(LoadFault::Failed));
 
-#[test]
-fn one_byte_more_than_the_limit(rt: HostRuntime) -> Result<(), Fail> {
-    let alloc = rt.alloc();
-    let mut memory = MemoryFiles::new(two_files(alloc)?, vec![in alloc]?);
-    let mut sure = SureFiles::new(two_files(alloc)?);
-    let mut into = Vec::new(alloc);
-    for (limit, want) in [(0, "h"), (3, "hell"), (4, "hello"), (5, "hello")] {
-        assert_eq!(rt; memory.load("words", limit, &mut into), Ok(()));
-        assert_eq!(rt; into.as_slice(), want.as_bytes(), "limit {limit}");
-        assert_eq!(rt; sure.load("words", limit, &mut into), Ok(()));
-        assert_eq!(rt; into.as_slice(), want.as_bytes(), "limit {limit}");
-    }
-    Ok(())
-}
-
-#[test]
-fn a_named_write_keeps_a_prefix(rt: HostRuntime) -> Result<(), Fail> {
-    let alloc = rt.alloc();
-    for (kept, want) in [
-        (0, "abghi"),
-        (2, "abcdghi"),
-        (3, "abcdeghi"),
-        (9, "abcdeghi"),
-    ] {
-        let failing = vec![in alloc; (1, kept), (1, 1)]?;
-        let mut sink = MemorySink::new(alloc, failing);
-        assert_eq!(rt; sink.write(b"ab"), Ok(()));
-        assert_eq!(rt; sink.write(b"cde"), Err(SinkFault::Failed));
-        assert_eq!(rt; sink.write(b"ghi"), Ok(()));
-        assert_eq!(rt; sink.flush(), Ok(()));
-        assert_eq!(rt; sink.bytes(), want.as_bytes(), "kept {kept}");
-    }
-    Ok(())
-}
-
-#[test]
-fn a_named_flush_fails(rt: HostRuntime) -> Result<(), Fail> {
-    let alloc = rt.alloc();
-    let failing = vec![in alloc; (1, 5), (3, 0)]?;
-    let mut sink = MemorySink::new(alloc, failing);
+    let mut sink = SureSink::new(alloc);
     assert_eq!(rt; sink.write(b"ab"), Ok(()));
-    assert_eq!(rt; sink.flush(), Err(SinkFault::Failed));
     assert_eq!(rt; sink.flush(), Ok(()));
-    assert_eq!(rt; sink.flush(), Err(SinkFault::Failed));
     assert_eq!(rt; sink.bytes(), b"ab".as_slice());
-    Ok(())
-}
-
-#[test]
-fn a_sure_sink_takes_all(rt: HostRuntime) -> Result<(), Fail> {
-    let mut sink = SureSink::new(rt.alloc());
-    assert_eq!(rt; sink.bytes(), [].as_slice());
-    assert_eq!(rt; sink.write(b"ab"), Ok(()));
-    assert_eq!(rt; sink.write(b""), Ok(()));
-    assert_eq!(rt; sink.write(b"cde"), Ok(()));
-    assert_eq!(rt; sink.flush(), Ok(()));
-    assert_eq!(rt; sink.bytes(), b"abcde".as_slice());
     Ok(())
 }
 

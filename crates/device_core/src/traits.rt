@@ -1,4 +1,5 @@
-// Files that are loaded whole, and a sink that is written in pieces.
+//! Files that are loaded whole, and a sink that is written in pieces. No device is known here.
+
 ghost use Rattle.std.specs.Prelude.{◌≡◌, ◌+◌, ◌<◌, ◌≤◌, List, [], ℕ, length, take, Option, IfSome, OnOk, OnErr};
 ghost use Rattle.device_core.specs.Held.{bytes_at};
 ghost use Rattle.device_core.specs.Told.{Appended};
@@ -52,13 +53,16 @@ pub trait Sink {
     fn write(&mut self, piece: &[u8]) -> Result<(), SinkFault>
         ensures bytes { Appended (written self.old) (written self.new) piece.now result }
         ensures flushed { flushed self.new ≡ flushed self.old }
-        ensures cause { WriteCounts (faults self.old) (faults self.new) (short self.old) (short self.new) result };
+        ensures cause { WriteCounts (faults self.old) (faults self.new)
+            (short self.old) (short self.new) result };
 
     /// Hands on what was written. A refusal is always `Failed`, and comes only where the count of
     /// faults rose.
     fn flush(&mut self) -> Result<(), SinkFault>
         ensures bytes { written self.new ≡ written self.old }
-        ensures flushed { OnOk result (IfSome (written self.old) (λ bytes. flushed self.new ≡ length bytes)) }
+        ensures flushed { OnOk result (IfSome (written self.old) (λ bytes.
+            flushed self.new ≡ length bytes)) }
         ensures refused { OnErr result (flushed self.new ≡ flushed self.old) }
-        ensures cause { FlushCounts (faults self.old) (faults self.new) (short self.old) (short self.new) result };
+        ensures cause { FlushCounts (faults self.old) (faults self.new)
+            (short self.old) (short self.new) result };
 }

@@ -7,8 +7,8 @@ ghost use Rattle.frac128.specs.Order.{cross_cmp};
 use crate::divisors::gcd;
 use std::cmp::Ordering;
 
-/// A fraction in lowest terms, with a denominator of at least 1. Fractions are equal where their values are, and
-/// in the order of their values.
+/// A fraction in lowest terms, with a denominator of at least 1. Fractions are equal where their
+/// values are, and in the order of their values.
 #[derive(Clone, Copy, Debug, PartialEq, Eq, Hash)]
 pub struct Fraction {
     num: u128,
@@ -46,9 +46,9 @@ impl Fraction {
         self.den
     }
 
-    /// The moment at which an amount is used up: self + rest / (unit · rate). The amount is `rest` over the
-    /// denominator `unit`; from the moment `self`, which is at most 1, it falls at the speed `rate`. Every number
-    /// on the way is at most 2,000 · 2^116, which is below 2^127.
+    /// The moment at which an amount is used up: self + rest / (unit · rate). The amount is `rest`
+    /// over the denominator `unit`; from the moment `self`, which is at most 1, it falls at the
+    /// speed `rate`. Every number on the way is at most 2,000 · 2^116, which is below 2^127.
     pub fn later(self, rest: u128, unit: u128, rate: u128) -> Fraction
         requires at_most_one { numerator self ≤ denominator self }
         requires divides { denominator self ∣ unit }
@@ -95,7 +95,8 @@ impl Ord for Fraction {
     }
 }
 
-/// How a / b compares with c / d: by the quotients, and where these are equal by what is left, upside down.
+/// How a / b compares with c / d: by the quotients, and where these are equal by what is left,
+/// upside down.
 fn compare(mut a: u128, mut b: u128, mut c: u128, mut d: u128) -> Ordering
     requires b_positive { 1 ≤ b }
     requires d_positive { 1 ≤ d }

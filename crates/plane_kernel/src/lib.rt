@@ -1,6 +1,18 @@
-//! Sets of numbers as bit planes: slices of words of 64 bits, in which bit k of the plane is bit k % 64 of the word
-//! k / 64. The tests and the count take eight words at a time, and go word by word over the rest. No call takes
-//! memory.
+//! Sets of numbers as bit planes: slices of words of 64 bits, in which bit k of the plane is bit k
+//! % 64 of the word k / 64. The tests and the count take eight words at a time, and go word by word
+//! over the rest. No call takes memory.
+//!
+//! ```text
+//! let mut first = [0; 9];
+//! let mut second = [0; 9];
+//! set_bit(&mut first, 575);
+//! set_bit(&mut second, 575);
+//! assert!(rt; within(&first, &second));
+//! set_bit(&mut first, 3);
+//! assert!(rt; meets(&first, &second));
+//! assert!(rt; !within(&first, &second));
+//! assert_eq!(rt; count(&first), 2);
+//! ```
 #![tactic(auto)]
 
 ghost use Rattle.std.specs.Prelude.{◌≡◌, ◌≢◌, ℕ, ◌+◌, ◌*◌, ◌^◌, ◌<◌, ◌≤◌, ◌↔◌, length, drop, IsTrue};

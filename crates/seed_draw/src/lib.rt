@@ -1,4 +1,14 @@
-//! From a ticket to the piece that it names.
+//! From a ticket to the piece that it names. Where the ticket comes from is not known here.
+//!
+//! ```text
+//! let weights = [1, 2, 1, 2];
+//! assert_eq!(rt; piece_at(&weights, 0), 0);
+//! assert_eq!(rt; piece_at(&weights, 1), 1);
+//! assert_eq!(rt; piece_at(&weights, 2), 1);
+//! assert_eq!(rt; piece_at(&weights, 3), 2);
+//! assert_eq!(rt; piece_at(&weights, 4), 3);
+//! assert_eq!(rt; piece_at(&weights, 5), 3);
+//! ```
 #![tactic(auto)]
 
 ghost use Rattle.std.specs.Prelude.{◌≡◌, ◌<◌, length, sum};

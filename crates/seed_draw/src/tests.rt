@@ -1,5 +1,8 @@
+//! Tickets of small weights, at the ends of each piece.
+
 use super::*;
 
+// The lines at the head of the crate.
 #[test]
 fn tickets_of_weights(rt: HostRuntime) {
     let weights = [1, 2, 1, 2];

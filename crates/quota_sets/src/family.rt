@@ -1,4 +1,4 @@
-//! Families of sets with quotas, numbered from 1.
+//! Families of sets with quotas, numbered from 1. Which sets cross is not known here.
 
 ghost use Rattle.std.specs.Prelude.{◌≡◌, ◌+◌, ◌-◌, ◌<◌, ◌≤◌, ◌↔◌, ◌++◌, [], ◌∷◌, length, slice_get, IsTrue, IsSome, IfSome, IfOk, IfErr, OnOk, OnErr};
 ghost use Rattle.definitions.specs.Sets.{IsFamily, IsInRange, IsSet, cells_in, set_cells, set_sum, units_of};
@@ -16,10 +16,11 @@ const MOST_SETS: usize = 2000;
 /// The most cells that the sets of a family may have, counted over all sets.
 const MOST_CELLS: usize = 1_201_000;
 
-/// Sets over the cells of a matrix with so many agents and columns, numbered from 1 in the order in which they
-/// were added.
+/// Sets over the cells of a matrix with so many agents and columns, numbered from 1 in the order in
+/// which they were added.
 ///
-/// There are at most 1,000 agents, 201 columns, 2,000 sets, and 1,201,000 cells counted over all sets.
+/// There are at most 1,000 agents, 201 columns, 2,000 sets, and 1,201,000 cells counted over all
+/// sets.
 #[derive(Debug, Drop)]
 pub struct Family {
     agents: u32,
@@ -35,7 +36,11 @@ impl Model for Family {
 
     ghost Value = { FamilyValue };
 
-    ghost view = { λ f. record { agents = f.agents; columns = f.columns; sets = map (λ e. e.1) f.sets.entries } };
+    ghost view = { λ f. record {
+      agents = f.agents;
+      columns = f.columns;
+      sets = map (λ e. e.1) f.sets.entries;
+    } };
 
     ghost invariant = { λ f. AreNumberedSets f.agents f.columns f.total f.sets.entries };
 }
@@ -66,20 +71,24 @@ impl Family {
         }
     }
 
-    /// Adds a set at the end and answers its number. A 2,001st set is refused as `TooManySets`, any other set whose
-    /// cells would bring their number above 1,201,000 as `TooManyCells`. A refusal hands the set back and leaves
-    /// the family.
+    /// Adds a set at the end and answers its number. A 2,001st set is refused as `TooManySets`, any
+    /// other set whose cells would bring their number above 1,201,000 as `TooManyCells`. A refusal
+    /// hands the set back and leaves the family.
     pub fn insert(&mut self, set: QuotaSet) -> Result<u32, InsertFault>
         requires { IsInRange self.old.agents self.old.columns set }
         ensures number { IfOk result (λ number. number ≡ length self.old.sets + 1) }
-        ensures added { OnOk result (self.new ≡ record self.old { sets = self.old.sets ++ set ∷ [] }) }
-        ensures room { OnOk result ((length self.old.sets < 2000) × (cells_in self.old.sets + length set.cells ≤ 1201000)) }
+        ensures added { OnOk result (self.new
+            ≡ record self.old { sets = self.old.sets ++ set ∷ [] }) }
+        ensures room { OnOk result ((length self.old.sets < 2000)
+            × (cells_in self.old.sets + length set.cells ≤ 1201000)) }
 
         ensures unchanged { OnErr result (self.new ≡ self.old) }
         ensures handed_back { IfErr result (λ e. refused_set e ≡ set) }
-        ensures too_many_sets { IfErr result (λ e. IsTrue (is_too_many_sets e) ↔ (length self.old.sets ≡ 2000)) }
+        ensures too_many_sets { IfErr result (λ e. IsTrue (is_too_many_sets e)
+            ↔ (length self.old.sets ≡ 2000)) }
         ensures too_many_cells { IfErr result (λ e. IsTrue (is_too_many_cells e)
-            ↔ ((length self.old.sets < 2000) × (1201000 < cells_in self.old.sets + length set.cells))) }
+            ↔ ((length self.old.sets < 2000)
+            × (1201000 < cells_in self.old.sets + length set.cells))) }
         ensures lawful { IsFamily self.new }
     {
         let count = self.sets.len();

@@ -9,8 +9,9 @@ use crate::quota_set::QuotaSet;
 use definitions::Infeasible;
 
 impl Scaled {
-    /// Whether the units in each set of a family of the matrix's shape lie within floor and ceiling times the
-    /// denominator. Where they do not, the first such set by number is answered, with its units.
+    /// Whether the units in each set of a family of the matrix's shape lie within floor and ceiling
+    /// times the denominator. Where they do not, the first such set by number is answered, with its
+    /// units.
     pub fn meets(&self, family: &Family) -> Result<(), Infeasible>
         requires agents { self.now.agents ≡ family.now.agents }
         requires columns { self.now.columns ≡ family.now.columns }
@@ -44,7 +45,8 @@ impl Scaled {
 
     // Whether so many units break the quotas of a set.
     fn breaks(&self, set: &QuotaSet, sum: u128) -> bool
-        ensures { IsTrue result ↔ ((sum < set.now.floor * self.now.denominator) ⊎ (set.now.ceiling * self.now.denominator < sum)) }
+        ensures { IsTrue result ↔ ((sum < set.now.floor * self.now.denominator)
+            ⊎ (set.now.ceiling * self.now.denominator < sum)) }
     {
         let one = self.denominator();
         sum < u128::from(set.floor()) * one || u128::from(set.ceiling()) * one < sum

@@ -1,4 +1,4 @@
-//! Matrices of whole numbers over one denominator.
+//! Matrices of whole numbers over one denominator. What the units are of is not known here.
 
 ghost use Rattle.std.specs.Prelude.{◌≡◌, ◌<◌};
 ghost use Rattle.definitions.specs.Sets.{IsScaledMatrix, units_of};
@@ -8,8 +8,8 @@ use std::marker::Model;
 
 /// A matrix of agents by columns whose entries are whole numbers of units over one denominator.
 ///
-/// The denominator is from 1 to 2^116, the units stand row by row, and all units together are at most
-/// 1,000 times the denominator.
+/// The denominator is from 1 to 2^116, the units stand row by row, and all units together are at
+/// most 1,000 times the denominator.
 #[derive(Debug, Drop)]
 pub struct Scaled {
     denominator: u128,
@@ -23,16 +23,36 @@ impl Model for Scaled {
 
     ghost Value = { ScaledValue };
 
-    ghost view = { λ x. record { denominator = x.denominator; agents = x.agents; columns = x.columns; units = x.units.items } };
+    ghost view = { λ x. record {
+      denominator = x.denominator;
+      agents = x.agents;
+      columns = x.columns;
+      units = x.units.items;
+    } };
 
-    ghost invariant = { λ x. IsScaledMatrix (record { denominator = x.denominator; agents = x.agents; columns = x.columns; units = x.units.items }) };
+    ghost invariant = { λ x. IsScaledMatrix (record {
+      denominator = x.denominator;
+      agents = x.agents;
+      columns = x.columns;
+      units = x.units.items;
+    }) };
 }
 
 impl Scaled {
     /// The matrix with these units, row by row.
     pub fn new(denominator: u128, agents: u32, columns: u32, units: Vec<u128>) -> Scaled
-        requires { IsScaledMatrix (record { denominator = denominator; agents = agents; columns = columns; units = units.items }) }
-        ensures { result ≡ record { denominator = denominator; agents = agents; columns = columns; units = units.items } }
+        requires { IsScaledMatrix (record {
+          denominator = denominator;
+          agents = agents;
+          columns = columns;
+          units = units.items;
+        }) }
+        ensures { result ≡ record {
+          denominator = denominator;
+          agents = agents;
+          columns = columns;
+          units = units.items;
+        } }
     {
         Scaled {
             denominator,

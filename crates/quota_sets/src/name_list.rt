@@ -1,10 +1,11 @@
-//! Distinct names in order.
+//! Distinct names in order. Whose names they are, and which texts may be names, is not known here.
 
-ghost use Rattle.std.specs.Prelude.{◌≡◌, ◌++◌, ◌∷◌, [], false, length, slice_get, string_bytes, option_copied, IfOk, IfErr, OnOk, OnErr};
+ghost use Rattle.std.specs.Prelude.{◌≡◌, ◌-◌, ◌<◌, ◌^◌, ◌++◌, ◌∷◌, [], false, length, slice_get, slice_index_or, string_bytes, option_copied, IfOk, IfErr, OnOk, OnErr};
 ghost use Rattle.definitions.specs.Texts.{has_name, name_index};
 ghost use Rattle.quota_sets.specs.NameList.{AreNames};
 ghost use Rattle.quota_sets.specs.Refusals.{refused_name, is_repeated};
 
+use crate::NoMemory;
 use indexmap::IndexSet;
 use std::alloc::Global;
 use std::marker::Model;
@@ -57,7 +58,8 @@ impl Names {
 
         ensures unchanged { OnErr result (self.new ≡ self.old) }
         ensures handed_back { IfErr result (λ e. refused_name e ≡ name) }
-        ensures repeated { IfErr result (λ e. is_repeated e ≡ has_name self.old (string_bytes name)) }
+        ensures repeated { IfErr result (λ e. is_repeated e
+            ≡ has_name self.old (string_bytes name)) }
     {
         if self.set.contains(name.as_str()) {
             return Err(NameFault::Repeated(name));
@@ -71,6 +73,19 @@ impl Names {
             return Err(NameFault::NoMemory(refused.value));
         }
         Ok(place)
+    }
+
+    /// Adds a copy of a name at the end.
+    pub fn add_copy(&mut self, name: &str) -> Result<(), NoMemory>
+        requires fresh { has_name self.old name.now ≡ false }
+        requires room { length self.old < 2 ^ 32 - 1 }
+        ensures ok { OnOk result (self.new ≡ self.old ++ name.now ∷ []) }
+        ensures err { OnErr result (self.new ≡ self.old) }
+    {
+        let alloc = *self.set.allocator();
+        let copy = String::from_str(alloc, name)?;
+        self.set.insert_full(copy)?;
+        Ok(())
     }
 
     /// The place of a name, or `None` where it is not there.
@@ -103,6 +118,16 @@ impl Names {
     {
         let name = self.set.get_index(index as usize)?;
         Some(name.as_str())
+    }
+
+    /// The name at a place, and an empty one past the end.
+    pub fn name_at(&self, place: u32) -> &str
+        ensures { result.now ≡ slice_index_or self.now place [] }
+    {
+        match self.at(place) {
+            Some(name) => name,
+            None => "",
+        }
     }
 
     /// How many names there are.

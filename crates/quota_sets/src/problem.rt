@@ -12,11 +12,12 @@ use std::marker::Model;
 
 /// Agents with their demands and lists, objects, and a family of sets.
 ///
-/// There are 1 to 1,000 agents and at most 200 objects. Columns count from 0: those of the objects in order, and
-/// last that of `none`. An agent's list has distinct columns, with that of `none` last. Each demand is at least 1,
-/// and together they are at most 1,000. The family has the stated sets, numbered from 1, and then a set for each
-/// agent's row, of side 1, over all columns, with the agent's demand as floor and ceiling. The stated sets are of
-/// side 2 with floor 0 and no cell of `none`, and each object has one that holds its whole column.
+/// There are 1 to 1,000 agents and at most 200 objects. Columns count from 0: those of the objects
+/// in order, and last that of `none`. An agent's list has distinct columns, with that of `none`
+/// last. Each demand is at least 1, and together they are at most 1,000. The family has the stated
+/// sets, numbered from 1, and then a set for each agent's row, of side 1, over all columns, with
+/// the agent's demand as floor and ceiling. The stated sets are of side 2 with floor 0 and no cell
+/// of `none`, and each object has one that holds its whole column.
 #[derive(Debug, Drop)]
 pub struct Problem {
     agents: Names,
@@ -66,8 +67,8 @@ impl From<AllocError> for ProblemFault {
 }
 
 impl Problem {
-    /// The problem in which each agent's demand is 1. The sets of `stated` are the stated sets; the agents' rows
-    /// are added.
+    /// The problem in which each agent's demand is 1. The sets of `stated` are the stated sets; the
+    /// agents' rows are added.
     pub fn new(
         alloc: Global,
         agents: Names,
@@ -76,14 +77,16 @@ impl Problem {
         stated: Family,
     ) -> Result<Problem, ProblemFault>
         requires { AreProblemParts agents objects (map (λ list. list.items) lists.items) stated }
-        ensures { IfOk result (λ p. p ≡ problem_from agents objects (map (λ list. list.items) lists.items) (replicate (length agents) 1) stated) }
+        ensures { IfOk result (λ p. p
+            ≡ problem_from agents objects (map (λ list. list.items) lists.items)
+            (replicate (length agents) 1) stated) }
     {
         let demands = vec![in alloc; 1; agents.len() as usize]?;
         Problem::with_demands(alloc, agents, objects, lists, demands, stated)
     }
 
-    /// The problem in which each agent has its demand of `demands`. The sets of `stated` are the stated sets; the
-    /// agents' rows are added.
+    /// The problem in which each agent has its demand of `demands`. The sets of `stated` are the
+    /// stated sets; the agents' rows are added.
     pub fn with_demands(
         alloc: Global,
         agents: Names,
@@ -92,9 +95,12 @@ impl Problem {
         demands: Vec<u32>,
         stated: Family,
     ) -> Result<Problem, ProblemFault>
-        requires parts { AreProblemParts agents objects (map (λ list. list.items) lists.items) stated }
+        requires parts { AreProblemParts agents objects
+            (map (λ list. list.items) lists.items) stated }
         requires demands { AreDemands (length agents) demands.items }
-        ensures { IfOk result (λ p. p ≡ problem_from agents objects (map (λ list. list.items) lists.items) demands.items stated) }
+        ensures { IfOk result (λ p. p
+            ≡ problem_from agents objects (map (λ list. list.items) lists.items)
+            demands.items stated) }
     {
         let stated_count = stated.len();
         let mut family = stated;

@@ -8,7 +8,8 @@ use std::marker::Model;
 
 /// A set of cells on side 1 or 2, with a floor and a ceiling for the units in all its cells.
 ///
-/// The cells rise strictly by agent and then object, and the floor is at most the ceiling, which is at most 1,000.
+/// The cells rise strictly by agent and then object, and the floor is at most the ceiling, which is
+/// at most 1,000.
 #[derive(Debug, Drop)]
 pub struct QuotaSet {
     side: u8,
@@ -22,16 +23,36 @@ impl Model for QuotaSet {
 
     ghost Value = { SetValue };
 
-    ghost view = { λ s. record { side = s.side; floor = s.floor; ceiling = s.ceiling; cells = s.cells.items } };
+    ghost view = { λ s. record {
+      side = s.side;
+      floor = s.floor;
+      ceiling = s.ceiling;
+      cells = s.cells.items;
+    } };
 
-    ghost invariant = { λ s. IsQuotaSet (record { side = s.side; floor = s.floor; ceiling = s.ceiling; cells = s.cells.items }) };
+    ghost invariant = { λ s. IsQuotaSet (record {
+      side = s.side;
+      floor = s.floor;
+      ceiling = s.ceiling;
+      cells = s.cells.items;
+    }) };
 }
 
 impl QuotaSet {
     /// The set with these cells and quotas.
     pub fn new(side: u8, floor: u32, ceiling: u32, cells: Vec<Cell>) -> QuotaSet
-        requires { IsQuotaSet (record { side = side; floor = floor; ceiling = ceiling; cells = cells.items }) }
-        ensures { result ≡ record { side = side; floor = floor; ceiling = ceiling; cells = cells.items } }
+        requires { IsQuotaSet (record {
+          side = side;
+          floor = floor;
+          ceiling = ceiling;
+          cells = cells.items;
+        }) }
+        ensures { result ≡ record {
+          side = side;
+          floor = floor;
+          ceiling = ceiling;
+          cells = cells.items;
+        } }
     {
         QuotaSet {
             side,

@@ -1,4 +1,4 @@
-//! The agents' rows as sets.
+//! The agents' rows as sets. Stated sets are not known here.
 
 ghost use Rattle.std.specs.Prelude.{◌≡◌, ◌+◌, ◌*◌, ◌<◌, ◌≤◌, ◌++◌, length, All, IfOk, OnOk};
 ghost use Rattle.definitions.specs.Sets.{IsFamily, cells_in, row_cells};
@@ -24,7 +24,8 @@ pub fn add_rows(
     requires demand { All (λ d. d ≤ 1000) demands.now }
     requires sets { length family.old.sets + agents ≤ 2000 }
     requires cells { cells_in family.old.sets + agents * columns ≤ 1201000 }
-    ensures added { OnOk result (family.new ≡ record family.old { sets = family.old.sets ++ row_sets columns demands.now }) }
+    ensures added { OnOk result (family.new
+        ≡ record family.old { sets = family.old.sets ++ row_sets columns demands.now }) }
     ensures lawful { OnOk result (IsFamily family.new) }
 {
     for agent in 0..agents {
@@ -42,7 +43,13 @@ pub fn add_rows(
 // The row of an agent, with its demand as floor and ceiling.
 fn row_of(alloc: Global, agent: u32, columns: u32, demand: u32) -> Result<QuotaSet, AllocError>
     requires { demand ≤ 1000 }
-    ensures { IfOk result (λ s. s ≡ record { side = 1; floor = demand; ceiling = demand; cells = row_cells columns agent }) }
+    ensures { IfOk result (λ s. s
+        ≡ record {
+          side = 1;
+          floor = demand;
+          ceiling = demand;
+          cells = row_cells columns agent;
+        }) }
 {
     let cells = cells_of_row(alloc, agent, columns)?;
     Ok(QuotaSet::new(1, demand, demand, cells))

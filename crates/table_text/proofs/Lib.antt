@@ -1,8 +1,10 @@
 mod CountFacts
 mod CutFacts
 mod DigitFacts
+pub mod EveryText
 mod MarkFacts
 mod NameFacts
+mod ReadFacts
 pub mod RoundTrips
 mod RowFacts
 mod ShareFacts

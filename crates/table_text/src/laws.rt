@@ -1,3 +1,5 @@
+//! Laws of texts and their records.
+
 ghost use Rattle.table_text.specs.Laws.{TextReadsOnce, WrittenTextReadsBack};
 
 /// A text has one list of rows: what its contract says holds of every text, and it does nothing.

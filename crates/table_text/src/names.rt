@@ -1,3 +1,5 @@
+//! Names in fields. Whose names they are is not known here.
+
 ghost use Rattle.std.specs.Prelude.{◌≡◌, codes, Some, None, if◌then◌else◌};
 ghost use Rattle.std.specs.List.{list_all};
 ghost use Rattle.std.specs.Option.{option_copied};

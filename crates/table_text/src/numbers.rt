@@ -1,3 +1,5 @@
+//! Whole numbers in fields, and their texts. What is counted is not known here.
+
 ghost use Rattle.std.specs.Prelude.{◌≡◌, ◌≤◌, ◌<◌, ◌^◌, length, take, IfSome};
 ghost use Rattle.std.specs.Fmt.{decimal};
 ghost use Rattle.definitions.specs.Texts.{count_of, short_count_of, signed_of};
@@ -39,13 +41,8 @@ pub fn read_count(text: &[u8]) -> Option<u128>
         if !b.is_ascii_digit() {
             return None;
         }
-        let Some(tens) = value.checked_mul(10) else {
-            return None;
-        };
-        let Some(more) = tens.checked_add(u128::from(*b - b'0')) else {
-            return None;
-        };
-        value = more;
+        let tens = value.checked_mul(10)?;
+        value = tens.checked_add(u128::from(*b - b'0'))?;
     }
     Some(value)
 }
@@ -58,15 +55,11 @@ pub fn read_signed(text: &[u8]) -> Option<i128>
         return None;
     }
     if text[0] == b'-' {
-        let Some(n) = read_short_count(&text[1..]) else {
-            return None;
-        };
-        return Some(-(n as i128));
+        let size = read_short_count(&text[1..])?;
+        return Some(-(size as i128));
     }
-    let Some(n) = read_short_count(text) else {
-        return None;
-    };
-    Some(n as i128)
+    let size = read_short_count(text)?;
+    Some(size as i128)
 }
 
 // The value of a count of at most 38 digits.

@@ -1,12 +1,32 @@
-ghost use Rattle.std.specs.Prelude.{◌≡◌, ◌==◌, ◌<◌, ◌++◌, ◌∷◌, [], length, slice_index_or, IfOk, OnOk, OnErr};
-ghost use Rattle.csv.specs.Records.{prev};
+//! One record: its fields, each of any bytes. Which fields a text or a command wants is not known
+//! here.
 
-use std::alloc::Global;
+ghost use Rattle.std.specs.Prelude.{◌≡◌, ◌==◌, ◌<◌, ◌++◌, ◌∷◌, [], length, slice_index_or, IfOk, OnOk, OnErr};
+ghost use Rattle.std.specs.Fmt.{decimal};
+ghost use Rattle.std.specs.List.{list_all};
+ghost use Rattle.std.specs.Str.{is_utf8};
+ghost use Rattle.csv.specs.Records.{prev};
+ghost use Rattle.definitions.specs.Texts.{field};
+
+use crate::numbers::digits;
+use std::alloc::{AllocError, AllocFailed, Global};
 use std::marker::Model;
 
 /// Memory ran out.
 #[derive(Debug, Drop)]
 pub struct NoMemory;
+
+impl From<AllocError> for NoMemory {
+    fn from(_: AllocError) -> NoMemory {
+        NoMemory
+    }
+}
+
+impl<T: Drop> From<AllocFailed<T>> for NoMemory {
+    fn from(_: AllocFailed<T>) -> NoMemory {
+        NoMemory
+    }
+}
 
 /// The fields of a record, each of any bytes.
 #[derive(Drop)]
@@ -25,7 +45,8 @@ impl Model for Row {
 
     ghost view = { λ r. cut_from 0 r.ends.items r.bytes.items };
 
-    ghost invariant = { λ r. Rising 0 r.ends.items (length r.bytes.items) × (last_end 0 r.ends.items ≡ length r.bytes.items) };
+    ghost invariant = { λ r. Rising 0 r.ends.items (length r.bytes.items)
+        × (last_end 0 r.ends.items ≡ length r.bytes.items) };
 }
 
 impl Row {
@@ -43,12 +64,8 @@ impl Row {
     pub(crate) fn with_capacity(alloc: Global, bytes: usize, fields: usize) -> Result<Row, NoMemory>
         ensures { IfOk result (λ r. r ≡ []) }
     {
-        let Ok(bytes) = Vec::with_capacity(alloc, bytes) else {
-            return Err(NoMemory);
-        };
-        let Ok(ends) = Vec::with_capacity(alloc, fields) else {
-            return Err(NoMemory);
-        };
+        let bytes = Vec::with_capacity(alloc, bytes)?;
+        let ends = Vec::with_capacity(alloc, fields)?;
         Ok(Row { bytes, ends })
     }
 
@@ -58,15 +75,24 @@ impl Row {
         ensures err { OnErr result (self.new ≡ self.old) }
     {
         let start = self.bytes.len();
-        if self.bytes.extend_from_slice(field).is_err() {
-            return Err(NoMemory);
-        }
+        self.bytes.extend_from_slice(field)?;
         let end = self.bytes.len();
         if self.ends.push(end).is_err() {
             self.bytes.truncate(start);
             return Err(NoMemory);
         }
         Ok(())
+    }
+
+    /// Adds the shortest decimal text of a number as the last field. After `NoMemory` the row is as
+    /// before.
+    pub fn push_number(&mut self, number: u128) -> Result<(), NoMemory>
+        ensures ok { OnOk result (self.new ≡ self.old ++ decimal number ∷ []) }
+        ensures err { OnErr result (self.new ≡ self.old) }
+    {
+        let mut text = [0u8; 39];
+        let length = digits(number, &mut text);
+        self.push(&text[..length])
     }
 
     /// How many fields there are.
@@ -91,6 +117,29 @@ impl Row {
         let start = start_of(self.ends.as_slice(), index);
         &self.bytes.as_slice()[start..self.ends[index]]
     }
+
+    /// The bytes of the field at an index, from 0, and none past the last field.
+    pub fn field_at(&self, index: usize) -> &[u8]
+        ensures { result.now ≡ field self.now index }
+    {
+        if index < self.len() {
+            self.field(index)
+        } else {
+            b"".as_slice()
+        }
+    }
+
+    /// Whether each field is UTF-8.
+    pub fn is_text(&self) -> bool
+        ensures { result ≡ list_all is_utf8 self.now }
+    {
+        for i in 0..self.len() {
+            if !is_text_field(self.field(i)) {
+                return false;
+            }
+        }
+        true
+    }
 }
 
 // Where the field at an index starts, by where each field ends.
@@ -99,4 +148,10 @@ fn start_of(ends: &[usize], index: usize) -> usize
     ensures { result ≡ prev 0 ends.now index }
 {
     if index == 0 { 0 } else { ends[index - 1] }
+}
+
+fn is_text_field(field: &[u8]) -> bool
+    ensures { result ≡ is_utf8 field.now }
+{
+    std::str::from_utf8(field).is_ok()
 }

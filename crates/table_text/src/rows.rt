@@ -1,10 +1,12 @@
-ghost use Rattle.std.specs.Prelude.{◌≡◌, ◌==◌, ◌<◌, ◌≤◌, [], length, slice_index, slice_index_or, IfOk};
-ghost use Rattle.csv.specs.Reading.{is_bom, strip_bom};
+//! The records of a text. What the fields say is not known here.
+
+ghost use Rattle.std.specs.Prelude.{◌≡◌, ◌==◌, ◌+◌, ◌<◌, ◌≤◌, [], length, true, slice_index, slice_index_or, IfOk};
+ghost use Rattle.csv.specs.Reading.{error_kind, is_bom, stops_reader, strip_bom};
 ghost use Rattle.csv.specs.Records.{fields_of};
 ghost use Rattle.table_text.specs.Rows.{kept_count, kept_fields, IsTextOf};
 
 use crate::row::{NoMemory, Row};
-use csv::{ByteRecord, ReaderBuilder};
+use csv::{ByteRecord, Error, ErrorKind, ReaderBuilder};
 use std::alloc::Global;
 use std::marker::Model;
 
@@ -37,6 +39,13 @@ impl Rows {
         self.rows.is_empty()
     }
 
+    /// The number of the record after the last, where records are counted from 1.
+    pub fn next_number(&self) -> u64
+        ensures { result ≡ length self.now + 1 }
+    {
+        self.rows.len() as u64 + 1
+    }
+
     /// The record at an index, from 0.
     pub fn at(&self, index: usize) -> &Row
         requires { index < length self.now }
@@ -61,16 +70,23 @@ pub fn records(alloc: Global, bytes: &[u8]) -> Result<Rows, NoMemory>
         .from_reader(alloc, without_mark(bytes));
     let mut rows = Vec::new(alloc);
     for record in reader.into_byte_records() {
-        // A read from memory fails only for want of memory.
-        let Ok(record) = record else {
-            return Err(NoMemory);
+        let record = match record {
+            Ok(record) => record,
+            Err(cause) => return Err(unread(cause)),
         };
-        let row = row_of(alloc, &record)?;
-        if rows.push(row).is_err() {
-            return Err(NoMemory);
-        }
+        rows.push(row_of(alloc, &record)?)?;
     }
     Ok(Rows { rows })
+}
+
+// What a record is not read for. A read from memory never fails, so it is want of memory.
+fn unread(cause: Error) -> NoMemory
+    requires { stops_reader (error_kind cause) ≡ true }
+{
+    match cause.into_kind() {
+        ErrorKind::OutOfMemory | ErrorKind::Io(_) => NoMemory,
+        _ => unreachable!(),
+    }
 }
 
 // The fields of a record, without the empty ones at the end.
@@ -122,7 +138,8 @@ fn without_mark(bytes: &[u8]) -> &[u8]
 
 fn begins_with_mark(bytes: &[u8]) -> bool
     requires { 3 ≤ length bytes.now }
-    ensures { result ≡ is_bom (slice_index bytes.now 0) (slice_index bytes.now 1) (slice_index bytes.now 2) }
+    ensures { result
+        ≡ is_bom (slice_index bytes.now 0) (slice_index bytes.now 1) (slice_index bytes.now 2) }
 {
     bytes[0] == 0xEF && bytes[1] == 0xBB && bytes[2] == 0xBF
 }

@@ -1,3 +1,5 @@
+//! Shares in fields: counts, quotients and decimals. Whose shares they are is not known here.
+
 ghost use Rattle.std.specs.Prelude.{◌≡◌, ◌==◌, ◌<◌, IfSome, option_map, position};
 ghost use Rattle.definitions.specs.Texts.{part_after, part_before, share_of};
 ghost use Rattle.table_text.specs.Shares.{decimal_of, quotient_of, ratio_of};
@@ -6,8 +8,8 @@ use crate::numbers::read_count;
 
 /// The value of a share, as a numerator and a denominator of at least 1, not reduced.
 ///
-/// A share is nothing, which is 0; a count; a count, `/` and a count of at least 1; or 1 to 8 digits,
-/// `.` and 1 to 30 digits.
+/// A share is nothing, which is 0; a count; a count, `/` and a count of at least 1; or 1 to 8
+/// digits, `.` and 1 to 30 digits.
 pub fn read_share(text: &[u8]) -> Option<(u128, u128)>
     ensures value { option_map ratio_of result ≡ share_of text.now }
     ensures positive { IfSome result (λ share. 0 < share.1) }
@@ -30,12 +32,8 @@ fn read_quotient(text: &[u8]) -> Option<(u128, u128)>
     ensures positive { IfSome result (λ share. 0 < share.1) }
 {
     let (before, after) = parts_at(text, b'/');
-    let Some(num) = read_count(before) else {
-        return None;
-    };
-    let Some(den) = read_count(after) else {
-        return None;
-    };
+    let num = read_count(before)?;
+    let den = read_count(after)?;
     if den == 0 {
         return None;
     }
@@ -51,12 +49,8 @@ fn read_decimal(text: &[u8]) -> Option<(u128, u128)>
     if before.len() > 8 || after.len() > 30 {
         return None;
     }
-    let Some(whole) = read_count(before) else {
-        return None;
-    };
-    let Some(part) = read_count(after) else {
-        return None;
-    };
+    let whole = read_count(before)?;
+    let part = read_count(after)?;
     let den = 10u128.pow(after.len() as u32);
     Some((whole * den + part, den))
 }

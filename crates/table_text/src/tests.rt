@@ -1,3 +1,6 @@
+//! What the clauses leave to the definitions of `csv`, values at the ends of their ranges, and that
+//! each call that wants memory succeeds.
+
 use super::*;
 use std::alloc::Global;
 use std::process::Abort;
@@ -40,7 +43,8 @@ fn marks_and_quotes(rt: HostRuntime) -> Result<(), Fail> {
     )
 }
 
-// Empty fields inside stay; a blank line is no record, and a quoted empty field is one without fields.
+// Empty fields inside stay; a blank line is no record, and a quoted empty field is one without
+// fields.
 #[test]
 fn unusual_records(rt: HostRuntime) -> Result<(), Fail> {
     has_rows(
@@ -59,124 +63,77 @@ fn unusual_records(rt: HostRuntime) -> Result<(), Fail> {
     )
 }
 
+// Fields with a comma, a quote or an end of line, and a record of one empty field.
 #[test]
 fn written_records(rt: HostRuntime) -> Result<(), Fail> {
     let alloc = rt.alloc();
     let mut row = Row::new(alloc);
-    assert!(rt; row.is_empty());
-    let fields: [&[u8]; 6] = [b"a", b"b,c", b"d\"e", b"f\rg", b"h\ni", b""];
-    for field in fields {
-        row.push(field)?;
+    for field in ["a", "b,c", "d\"e", "f\rg", "h\ni", ""] {
+        row.push(field.as_bytes())?;
     }
+    row.push_number(u128::MAX)?;
     let mut text = Vec::from_slice(alloc, b"x\n")?;
-    assert!(rt; row.len() == 6);
     row_bytes(alloc, &row, &mut text)?;
     assert_eq!(rt;
         text.as_slice(),
-        b"x\na,\"b,c\",\"d\"\"e\",\"f\rg\",\"h\ni\",\n".as_slice()
+        b"x\na,\"b,c\",\"d\"\"e\",\"f\rg\",\"h\ni\",,340282366920938463463374607431768211455\n".as_slice()
     );
-
-    let mut blank = Row::new(alloc);
-    blank.push(b"")?;
     let mut text = Vec::new(alloc);
-    assert!(rt; blank.len() == 1);
-    row_bytes(alloc, &blank, &mut text)?;
-    assert_eq!(rt; text.as_slice(), b"\"\"\n".as_slice());
+    row_bytes(alloc, &row_of_words(alloc, b"", b"")?, &mut text)?;
+    put_two(alloc, b"moment", 1, 10, &mut text)?;
+    put_end(alloc, 0, &mut text)?;
+    assert_eq!(rt; text.as_slice(), b",\nmoment,1,10\nend,0\n".as_slice());
+    Ok(())
+}
+
+// The lines at the head of the crate.
+#[test]
+fn read_and_written(rt: HostRuntime) -> Result<(), Fail> {
+    let alloc = rt.alloc();
+    let rows = records(alloc, b"agent,2\nagent,03\n")?;
+    let mut text = Vec::new(alloc);
+    for index in 0..rows.len() {
+        let row = rows.at(index);
+        if is_word(row.field_at(0), b"agent") {
+            if let Some(count) = read_count(row.field_at(1)) {
+                put_number(alloc, b"demand", count, &mut text)?;
+            }
+        }
+    }
+    assert_eq!(rt; text.as_slice(), b"demand,2\ndemand,3\n".as_slice());
     Ok(())
 }
 
 #[test]
-fn written_numbers(rt: HostRuntime) {
-    let mut into = [0u8; 39];
-    for (n, wanted) in [
-        (0, "0"),
-        (9, "9"),
-        (10, "10"),
-        (
-            83076749736557242056487941267521536,
-            "83076749736557242056487941267521536",
-        ),
-        (u128::MAX, "340282366920938463463374607431768211455"),
+fn numbers_at_their_ends(rt: HostRuntime) {
+    let greatest = "340282366920938463463374607431768211455";
+    assert_eq!(rt; read_count(greatest.as_bytes()), Some(u128::MAX));
+    for text in [
+        "340282366920938463463374607431768211456",
+        "0000000000000000000000000000000000000007",
+        "",
+        "+1",
+        "1 ",
     ] {
-        let len = digits(n, &mut into);
-        assert_eq!(rt; &into[..len], wanted.as_bytes());
+        assert_eq!(rt; read_count(text.as_bytes()), None, "at {text}");
     }
-}
-
-#[test]
-fn counts(rt: HostRuntime) {
     for (text, wanted) in [
-        ("", None),
-        ("0", Some(0)),
-        ("12", Some(12)),
-        ("000000000000000000000000000000000000007", Some(7)),
-        ("0000000000000000000000000000000000000007", None),
-        ("340282366920938463463374607431768211455", Some(u128::MAX)),
-        ("340282366920938463463374607431768211456", None),
-        ("999999999999999999999999999999999999999", None),
-        ("+1", None),
-        ("-1", None),
-        ("1 ", None),
-        ("1a", None),
-    ] {
-        assert_eq!(rt; read_count(text.as_bytes()), wanted, "at {text}");
-    }
-}
-
-#[test]
-fn shares(rt: HostRuntime) {
-    for (text, wanted) in [
-        ("", Some((0, 1))),
-        ("007", Some((7, 1))),
-        ("2/4", Some((2, 4))),
-        ("0/5", Some((0, 5))),
-        ("1/0", None),
-        ("/5", None),
-        ("5/", None),
-        ("1/2/3", None),
-        ("0.50", Some((50, 100))),
-        ("12345678.5", Some((123456785, 10))),
-        ("123456789.5", None),
-        (
-            "1.000000000000000000000000000003",
-            Some((
-                1000000000000000000000000000003,
-                1000000000000000000000000000000,
-            )),
-        ),
-        ("1.0000000000000000000000000000003", None),
-        (".5", None),
-        ("5.", None),
-        ("1.2.3", None),
-        ("1.5/2", None),
-        ("-1", None),
-    ] {
-        assert_eq!(rt; read_share(text.as_bytes()), wanted, "at {text}");
-    }
-}
-
-#[test]
-fn signed_numbers(rt: HostRuntime) {
-    for (text, wanted) in [
-        ("", None),
-        ("-", None),
-        ("0", Some(0)),
         ("-0", Some(0)),
         ("-12", Some(-12)),
-        (
-            "99999999999999999999999999999999999999",
-            Some(99999999999999999999999999999999999999),
-        ),
-        (
-            "-99999999999999999999999999999999999999",
-            Some(-99999999999999999999999999999999999999),
-        ),
         ("000000000000000000000000000000000000001", None),
-        ("-000000000000000000000000000000000000001", None),
         ("--1", None),
-        ("+1", None),
     ] {
         assert_eq!(rt; read_signed(text.as_bytes()), wanted, "at {text}");
+    }
+    for (text, wanted) in [
+        ("", Some((0, 1))),
+        ("2/4", Some((2, 4))),
+        ("1/0", None),
+        ("0.50", Some((50, 100))),
+        ("123456789.5", None),
+        ("1.2.3", None),
+    ] {
+        assert_eq!(rt; read_share(text.as_bytes()), wanted, "at {text}");
     }
 }
 
@@ -186,20 +143,15 @@ fn names(rt: HostRuntime) {
     assert!(rt; lawful_name(&letters[..64]));
     assert!(rt; !lawful_name(&letters));
     for (text, wanted) in [
-        ("", false),
         ("*", false),
         ("**", true),
         (" ", true),
         ("\u{1f}", false),
         ("~", true),
         ("\u{7f}", false),
-        ("\u{80}", false),
         ("\u{9f}", false),
         ("\u{a0}", true),
     ] {
         assert_eq!(rt; lawful_name(text.as_bytes()), wanted, "at {text:?}");
     }
-    assert!(rt; !lawful_name(b"\xFF"));
-    assert_eq!(rt; name_of(b"Ada"), Some("Ada"));
-    assert_eq!(rt; name_of(b"*"), None);
 }

@@ -1,3 +1,5 @@
+//! The text of a record. It knows no kind of record.
+
 ghost use Rattle.std.specs.Prelude.{◌≡◌, ◌<◌, ◌++◌, length, IfOk, OnOk, OnErr};
 ghost use Rattle.csv.specs.Records.{fields_of};
 ghost use Rattle.csv.specs.Writing.{default_writer, row_text};
@@ -16,16 +18,12 @@ pub fn row_bytes(alloc: Global, row: &Row, into: &mut Vec<u8>) -> Result<(), NoM
 {
     let mut record = ByteRecord::new(alloc);
     for i in 0..row.len() {
-        if record.push_field(row.field(i)).is_err() {
-            return Err(NoMemory);
-        }
+        record.push_field(row.field(i))?;
     }
     let Ok(text) = record_bytes(alloc, &record) else {
         return Err(NoMemory);
     };
-    if into.extend_from_slice(text.as_slice()).is_err() {
-        return Err(NoMemory);
-    }
+    into.extend_from_slice(text.as_slice())?;
     Ok(())
 }
 

@@ -17,25 +17,25 @@ returns-then-is_empty c = elim c.then-is_empty.branch [
 pub returns-then-not-is_ascii_digit : goal.returns-then-not-is_ascii_digit
 returns-then-not-is_ascii_digit c = count-not _ (not-digits _ _ c.loop-b-test.true (sym c.is_ascii_digit.ensures.value ∙ c.if-not-is_ascii_digit.true))
 
-pub returns-in_default : goal.returns-in_default
-returns-in_default c =
+pub returns-in_err-tens : goal.returns-in_err-tens
+returns-in_err-tens c =
     let d : is_ascii_digit (get_or c.args.text.now c.loop-b.b-index 0) ≡ true = sym c.is_ascii_digit.ensures.value ∙ c.if-not-is_ascii_digit.false in
     let v = value-step c.args.text.now c.loop-b.b-index c.loop-b.value c.loop-b-test.true d c.loop-b.invariant.1 in
-    let over = rw c.in_default.is at c.checked_mul.ensures in
-    value-over c.args.text.now (c.loop-b.b-index + 1) (omega (arith, v, over))
+    let over = rw c.in_err-tens.was at c.checked_mul.ensures in
+    rw c.from_residual.ensures (value-over c.args.text.now (c.loop-b.b-index + 1) (omega (arith, v, over)))
 
-pub returns-in_default-checked_add : goal.returns-in_default-checked_add
-returns-in_default-checked_add c =
+pub returns-in_err-value : goal.returns-in_err-value
+returns-in_err-value c =
     let d : is_ascii_digit (get_or c.args.text.now c.loop-b.b-index 0) ≡ true = sym c.is_ascii_digit.ensures.value ∙ c.if-not-is_ascii_digit.false in
     let v = value-step c.args.text.now c.loop-b.b-index c.loop-b.value c.loop-b-test.true d c.loop-b.invariant.1 in
-    let over = rw c.in_default-checked_add.is at c.checked_add.ensures in
-    value-over c.args.text.now (c.loop-b.b-index + 1) (omega (arith, v, over, c.in-Some.ensures, c.from.ensures))
+    let over = rw c.in_err-value.was at c.checked_add.ensures in
+    rw c.from_residual-in_err-value.ensures (value-over c.args.text.now (c.loop-b.b-index + 1) (omega (arith, v, over, c.in_ok-tens.ensures, c.from.ensures)))
 
 pub loop-b-preserved : goal.loop-b-preserved
 loop-b-preserved c =
     let d : is_ascii_digit (get_or c.args.text.now c.loop-b.b-index 0) ≡ true = sym c.is_ascii_digit.ensures.value ∙ c.if-not-is_ascii_digit.false in
     let v = value-step c.args.text.now c.loop-b.b-index c.loop-b.value c.loop-b-test.true d c.loop-b.invariant.1 in
-    (rw add-one (digits-more c.args.text.now c.loop-b.b-index c.loop-b-test.true c.loop-b.invariant.0 d), omega (arith, v, c.in-Some.ensures, c.from.ensures, c.in-Some-checked_add.ensures), omega (arith, c.in-Some-checked_add.ensures))
+    (rw add-one (digits-more c.args.text.now c.loop-b.b-index c.loop-b-test.true c.loop-b.invariant.0 d), omega (arith, v, c.in_ok-tens.ensures, c.from.ensures, c.in_ok-value.ensures), omega (arith, c.in_ok-value.ensures))
 
 pub returns : goal.returns
 returns c =

@@ -1,4 +1,4 @@
-use Rattle.std.proofs.Common.{◌≡◌, ◌<◌, ℕ, List, Some, map}
+use Rattle.std.proofs.Common.{◌≡◌, ◌<◌, ℕ, List, Some, map, true}
 use Rattle.csv.specs.Reading.{Reached, Ready, default_config, source_of, strip_bom}
 use Rattle.csv.specs.declared.parser.State.TheVariants as st
 use Rattle.csv.specs.declared.reader.Trim.TheVariants as trim
@@ -9,3 +9,4 @@ abbrev pub invariant-loop-record : goal.invariant-loop-record
 invariant-loop-record l = (l.record-iterator.rdr.trim ≡ trim.None) × Ready l.record-iterator.rdr × (0 < l.record-iterator.left) × (l.record-iterator.rdr.config ≡ default_config)
     × (y : List ℕ) × (source_of (λ s. Some s.now) l.record-iterator.rdr ≡ Some y)
     × (all : List (List (List ℕ))) × Reached default_config st.StartRecord (strip_bom (strip_bom l.fn.bytes)) all l.record-iterator.rdr.state y × (l.rows.items ≡ map kept_fields all)
+    × (l.record-iterator.rdr.flexible ≡ true)

@@ -3,8 +3,8 @@ use Rattle.std.specs.Result.{is_ok}
 use Rattle.table_text.proofs.CutFacts.{rising-push, cut-push}
 use Rattle.table_text.proofs.row.Row.push.Goals as goal
 
-pub invariant_of-self-else-is_err-2 : goal.invariant_of-self-else-is_err-2
-invariant_of-self-else-is_err-2 c =
+pub invariant_of-self-else-is_err : goal.invariant_of-self-else-is_err
+invariant_of-self-else-is_err c =
     let extended : is_ok c.extend_from_slice.result ≡ true = search rules in
     let pushed : is_ok c.push.result ≡ true = search rules in
     let bytes = rw extended at c.extend_from_slice.ensures.items in

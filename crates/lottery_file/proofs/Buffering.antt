@@ -1,6 +1,7 @@
 -- Records that are put into a buffer, one after the other.
 use Rattle.std.proofs.Common.{◌≡◌, ◌++◌, [], ◌∙◌, ℕ, List, Option, Result, Ok, Err, refl, sym, ap, subst, append_assoc, append-nil, arith}
 use Rattle.std.specs.Io.KnownBytes.{append_known}
+use Rattle.std.specs.Result.{IsErrAnd}
 use Rattle.device_core.proofs.Continuing.{moved}
 use Rattle.device_core.specs.declared.faults.SinkFault.{SinkFault}
 use Rattle.device_core.specs.declared.faults.SinkFault.TheVariants as sink
@@ -31,6 +32,11 @@ module _ {S : Type 0} {written : S → Option (List ℕ)} {flushed faults short 
     flushed_stays = p.flushed_stays;
     cause = p.cause;
   }
+
+  -- a refusal that was handed on
+  pub puts_refused : {T : Type 0} {a b : S} {x y t : List ℕ} {e : SinkFault} (r : Result T SinkFault) → IsErrAnd r (λ f. f ≡ e) → Puts {T = T} written flushed faults short a b x y t (Err e) → Puts written flushed faults short a b x y t r
+  puts_refused (Ok v) h p = absurd h
+  puts_refused {T = T} {a = a} {b = b} {x = x} {y = y} {t = t} (Err f) h p = subst (λ (k : SinkFault). Puts {T = T} written flushed faults short a b x y t (Err k)) (sym h) p
 
   -- the same text by another name
   pub puts_as : {T : Type 0} {a b : S} {x y t u : List ℕ} {r : Result T SinkFault} → t ≡ u → Puts written flushed faults short a b x y t r → Puts written flushed faults short a b x y u r

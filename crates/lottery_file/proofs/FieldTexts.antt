@@ -10,9 +10,9 @@ use Rattle.std.proofs.lemmas.Fmt.{IsAscii-decimal_wide, IsAscii-signed}
 use Rattle.std.proofs.lemmas.List.Elements.{All-head, All-tail}
 use Rattle.std.proofs.lemmas.List.Sums.{position_or_len_is}
 use Rattle.std.proofs.lemmas.Slice.Eq.{bytes_eq-Decides}
-use Rattle.std.proofs.lemmas.Str.{is_utf8-from_IsUtf8, IsUtf8-from_ascii}
+use Rattle.std.proofs.lemmas.Str.{is_utf8-from_IsUtf8, IsUtf8-from_ascii, chars-IsAscii}
 use Rattle.std.proofs.lemmas.Str.Ascii.{IsAscii-nil, IsAscii-cons}
-use Rattle.definitions.specs.Texts.{is_name, is_plain, name_index, signed_of, number}
+use Rattle.definitions.specs.Texts.{is_name, is_plain, null_name, name_index, signed_of, number}
 use Rattle.lottery_file.specs.declared.words.Word.{Word}
 use Rattle.lottery_file.specs.declared.words.Word.TheVariants as word
 use Rattle.lottery_file.proofs.SaidWords.{name_of}
@@ -40,6 +40,10 @@ word-text word.Worth = ascii-text (codes "worth") refl
 word-text word.Piece = ascii-text (codes "piece") refl
 word-text word.Give = ascii-text (codes "give") refl
 word-text word.End = ascii-text (codes "end") refl
+
+-- `none` is a lawful name
+pub null-name : is_name null_name ≡ true
+null-name = rw (ascii-text null_name refl, chars-IsAscii null_name (ascii-from null_name refl)) refl
 
 pub one-text : is_utf8 (codes "1") ≡ true
 one-text = ascii-text (codes "1") refl

@@ -13,7 +13,7 @@ use Rattle.definitions.specs.Firsts.{fault_after, first_among}
 use Rattle.definitions.specs.Texts.{Row, first_field, is_name, null_name, name_index, count_of, signed_of, number}
 use Rattle.definitions.specs.Lotteries.{ends_with_none}
 use Rattle.lottery_file.specs.Said.{Before, word_of, add_word, add}
-use Rattle.lottery_file.specs.Checks.{check_next, check_word, check_lottery, check_denominator, check_agents, check_agent_name, check_column_name, check_entry, check_entries, check_row, check_price, check_worth, check_piece, check_give, check_end_record, may_follow, is_due, weight_sum, follows_last}
+use Rattle.lottery_file.specs.Checks.{check_next, check_word, check_lottery, check_denominator, check_agents, check_agent_name, check_column_name, check_entry, check_entries, check_row, check_price, check_worth, check_worth_text, check_piece, check_give, check_end_record, may_follow, is_due, weight_sum, follows_last}
 use Rattle.lottery_file.specs.Lotteries.{AreLawfulNames, AreColumns}
 use Rattle.lottery_file.specs.declared.words.Word.{Word}
 use Rattle.lottery_file.specs.declared.words.Word.TheVariants as word
@@ -65,7 +65,7 @@ check-price b k y at few small =
 
 pub check-worth : (b : Before) (agent column text : List ℕ) (a : ℕ) (z : ℤ) → name_index b.agents agent ≡ Some (length b.lists) → name_index b.columns column ≡ Some a
     → list_any (λ j. eqb j a) b.open_list ≡ false → signed_of text ≡ Some z → nat_abs z ≤ 2 ^ 40 → check_word word.Worth b (codes "worth" ∷ agent ∷ column ∷ text ∷ []) ≡ None
-unfolding check_word check_worth
+unfolding check_word check_worth check_worth_text
 check-worth b agent column text a z at place new reads small =
     rw (at, eq-eqb (length b.lists) (length b.lists) refl, place, new, reads, le-leb (nat_abs z) (2 ^ 40) small) refl
 

@@ -1,6 +1,6 @@
 -- A lawful lottery reads back from what is written of it.
 use Rattle.std.proofs.Common.{◌≡◌, ◌+◌, ◌*◌, ◌≤◌, ◌∙◌, ◌++◌, ◌∷◌, [], ℕ, List, Option, Some, None, true, false, ◌⊎◌, refl, sym, ap, subst, length, append_assoc, arith, inl, inr}
-use Rattle.std.specs.Prelude.{All, IsSome, MatchOption}
+use Rattle.std.specs.Prelude.{All, MatchOption}
 use Rattle.std.proofs.lemmas.List.Elements.{All-nil, All-append, All-head, All-tail}
 use Rattle.std.proofs.lemmas.List.Sums.{sum_by-cons}
 use Rattle.csv.specs.Reading.{strip_bom}
@@ -9,7 +9,7 @@ use Rattle.definitions.specs.Texts.{Row}
 use Rattle.definitions.specs.Sets.{ScaledValue}
 use Rattle.definitions.specs.Values.{PieceValue, PricesValue}
 use Rattle.definitions.specs.Pieces.{AreGives}
-use Rattle.definitions.specs.Lotteries.{LotteryValue, DesignValue, ends_with_none}
+use Rattle.definitions.specs.Lotteries.{LotteryValue, DesignValue, HasPrices, HasNoPrices, ends_with_none}
 use Rattle.table_text.specs.Rows.{IsTextOf}
 use Rattle.table_text.proofs.TextFacts.{IsFilled, IsTextOf-rows_text, read_back-all_filled}
 use Rattle.lottery_file.specs.Said.{Before, nothing}
@@ -153,15 +153,16 @@ reads-priced l y h ends prices p =
     worth-follows [] = refl
     worth-follows (y ∷ prices) = refl
 
-reads-case : (l : LotteryValue) (o : Option PricesValue) → l.prices ≡ o → IsLawfulLottery l → ((ends_with_none l.columns ≡ true) × IsSome o) ⊎ ((ends_with_none l.columns ≡ false) × (o ≡ None) × (l.lists ≡ []))
-    → MatchOption o (l.lists ≡ []) (IsPriced l) → ReadsAs (rows_of l) l
-reads-case l None e h (inl with_none) p = cc with_none.1
-reads-case l (Some y) e h (inl with_none) p = reads-priced l y h with_none.0 e p
-reads-case l o e h (inr without) p = reads-plain l h without.0 (e ∙ without.1) without.2
+priced-here : (l : LotteryValue) (o : Option PricesValue) (y : PricesValue) → o ≡ Some y → MatchOption o (l.lists ≡ []) (IsPriced l) → IsPriced l y
+priced-here l o y e p = rw e at p
+
+reads-case : (l : LotteryValue) → IsLawfulLottery l → HasPrices l ⊎ HasNoPrices l → ReadsAs (rows_of l) l
+reads-case l h (inl p) = reads-priced l p.prices h p.named p.given (priced-here l l.prices p.prices p.given h.priced)
+reads-case l h (inr p) = reads-plain l h p.named p.prices p.lists
 
 -- the records of a lawful lottery read as it
 pub rows-read : (l : LotteryValue) → IsLawfulLottery l → ReadsAs (rows_of l) l
-rows-read l h = reads-case l l.prices refl h h.lottery.priced h.priced
+rows-read l h = reads-case l h h.lottery.priced
 
 priced-filled : (l : LotteryValue) (o : Option PricesValue) → IsLawfulLottery l → MatchOption o (l.lists ≡ []) (IsPriced l) → All IsFilled (priced_rows l.agents l.columns l.lists o)
 priced-filled l None h p = All-nil IsFilled

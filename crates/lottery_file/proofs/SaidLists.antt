@@ -1,9 +1,12 @@
 -- The lists that records say.
-use Rattle.std.proofs.Common.{◌≡◌, ◌∙◌, ◌++◌, ◌∷◌, [], List, true, false, refl, sym, ap, map, append_assoc}
+use Rattle.std.proofs.Common.{◌≡◌, ◌∙◌, ◌++◌, ◌∷◌, [], List, true, false, refl, sym, ap, map, reverse, append_assoc}
+use Rattle.std.specs.List.{before_first}
 use Rattle.std.specs.Str.{bytes_eq}
-use Rattle.std.proofs.lemmas.List.{append-nil}
+use Rattle.std.proofs.lemmas.List.{append-nil, reverse-append}
 use Rattle.definitions.specs.Texts.{Row, field, null_name}
 use Rattle.lottery_file.specs.Records.{onto_first, cut_lists}
+use Rattle.lottery_file.specs.Said.{if_some, open_places}
+use Rattle.lottery_file.proofs.SaidPieces.{before-no, before-yes}
 
 module _ {X : Type 0} (f : Row → X) where
   -- what the records of places say, cut after each place of `none`
@@ -50,3 +53,23 @@ module _ {X : Type 0} (f : Row → X) where
   -- where no list is open, these are all lists
   pub cut-all : (rows : List Row) (lists : List (List X)) → IsCut rows lists [] → lists ≡ cut_values rows
   cut-all rows lists h = sym (append-nil lists) ∙ sym (h []) ∙ ap cut_values (append-nil rows)
+
+  -- the lists and the open one, where it has a place
+  pub cut-so-far : (rows : List Row) (lists : List (List X)) (list : List X) → IsCut rows lists list → lists ++ if_some list ≡ cut_values rows
+  cut-so-far rows lists list h = ap (λ (rest : List (List X)). lists ++ rest) (open-one list) ∙ sym (h []) ∙ ap cut_values (append-nil rows)
+    where
+      open-one : (list : List X) → if_some list ≡ go_on list []
+      open-one [] = refl
+      open-one (x ∷ xs) = refl
+
+reverse-push : (rows : List Row) (r : Row) → reverse (rows ++ r ∷ []) ≡ r ∷ reverse rows
+reverse-push rows r = reverse-append rows (r ∷ [])
+
+-- after `none` no place is open
+pub open-closed : (rows : List Row) (r : Row) → bytes_eq (field r 2) null_name ≡ true → open_places (rows ++ r ∷ []) ≡ []
+open-closed rows r e = ap (λ (rs : List Row). reverse (before_first (λ r. bytes_eq (field r 2) null_name) rs)) (reverse-push rows r) ∙ ap reverse (before-yes (λ r. bytes_eq (field r 2) null_name) r (reverse rows) e)
+
+-- any other place is one more
+pub open-more : (rows : List Row) (r : Row) → bytes_eq (field r 2) null_name ≡ false → open_places (rows ++ r ∷ []) ≡ open_places rows ++ r ∷ []
+open-more rows r e = ap (λ (rs : List Row). reverse (before_first (λ r. bytes_eq (field r 2) null_name) rs)) (reverse-push rows r) ∙ ap reverse (before-no (λ r. bytes_eq (field r 2) null_name) r (reverse rows) e)
+    ∙ reverse-append (r ∷ []) (before_first (λ r. bytes_eq (field r 2) null_name) (reverse rows))

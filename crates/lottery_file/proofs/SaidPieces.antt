@@ -10,10 +10,10 @@ use Rattle.lottery_file.specs.Said.{onto_last}
 use Rattle.lottery_file.specs.Records.{begins_with, records_of, give_in, gives_in, pieces_along}
 
 -- what stands before the first that passes
-before-yes : {X : Type 0} (p : X → Bool) (x : X) (xs : List X) → p x ≡ true → before_first p (x ∷ xs) ≡ []
+pub before-yes : {X : Type 0} (p : X → Bool) (x : X) (xs : List X) → p x ≡ true → before_first p (x ∷ xs) ≡ []
 before-yes p x xs e = rw e refl
 
-before-no : {X : Type 0} (p : X → Bool) (x : X) (xs : List X) → p x ≡ false → before_first p (x ∷ xs) ≡ x ∷ before_first p xs
+pub before-no : {X : Type 0} (p : X → Bool) (x : X) (xs : List X) → p x ≡ false → before_first p (x ∷ xs) ≡ x ∷ before_first p xs
 before-no p x xs e =
     let n : 1 + position_or_len p xs ≡ suc (position_or_len p xs) = omega arith in
     rw (e, n) refl

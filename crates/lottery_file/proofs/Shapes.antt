@@ -30,7 +30,7 @@ pub lawful-shapes : (l : LotteryValue) → IsLawfulLottery l → ShapesAgree l.a
 lawful-shapes l h = record { row_each = h.lottery.rows; unit_each = h.lottery.columns; listed = lists-agree l l.prices h.priced }
 
 -- weights that add up to something are of some piece
-pieces-some : (ps : List PieceValue) (d : ℕ) → weight_sum ps ≡ d → 0 < d → 1 ≤ length ps
+pub pieces-some : (ps : List PieceValue) (d : ℕ) → weight_sum ps ≡ d → 0 < d → 1 ≤ length ps
 pieces-some [] d e some = absurd (omega (arith, e))
 pieces-some (p ∷ ps) d e some = omega arith
 

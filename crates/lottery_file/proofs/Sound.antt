@@ -1,10 +1,11 @@
 -- What a text reads as is lawful.
 use Rattle.std.proofs.Common.{◌≡◌, ◌∙◌, ◌∷◌, ◌⊎◌, [], ℕ, List, Option, Some, None, Bool, true, false, cond, refl, sym, subst, length, arith, inl, inr}
 use Rattle.std.proofs.lemmas.Bool.{ne_eqb}
-use Rattle.std.specs.Prelude.{◌==◌, IsSome, MatchOption}
+use Rattle.std.proofs.lemmas.Slice.Zip.{AllZip-long}
+use Rattle.std.specs.Prelude.{◌==◌, MatchOption}
 use Rattle.definitions.specs.Texts.{Row, first_field}
 use Rattle.definitions.specs.Values.{PricesValue}
-use Rattle.definitions.specs.Lotteries.{LotteryValue, ends_with_none}
+use Rattle.definitions.specs.Lotteries.{LotteryValue, HasPrices, HasNoPrices, ends_with_none}
 use Rattle.definitions.proofs.Passed.{fault-keeps, fault-ends}
 use Rattle.lottery_file.specs.Said.{Before, nothing, word_of, add_word, said_from, said_by}
 use Rattle.lottery_file.specs.Checks.{check_next, check_kind, check_record, check_end, is_ended, is_priced, fault_of}
@@ -67,10 +68,19 @@ pub said-ended : (rows : List Row) → fault_of rows ≡ None → is_ended (said
 unfolding check_end
 said-ended rows e = ended-from (is_ended (said_by rows).last) (fault-ends check_record check_end [] rows e)
 
-priced-case : (columns lists : List (List ℕ)) (t : Bool) (y : PricesValue) → ends_with_none columns ≡ t → (t ≡ false → lists ≡ [])
-    → ((ends_with_none columns ≡ true) × IsSome (cond t (Some y) None)) ⊎ ((ends_with_none columns ≡ false) × (cond t (Some y) None ≡ None) × (lists ≡ []))
-priced-case columns lists true y e n = inl (e, refl)
-priced-case columns lists false y e n = inr (e, refl, n refl)
+-- prices with a list and worths for each agent where the last column is `none`, and else neither prices nor lists
+priced-case : (v : LotteryValue) (t : Bool) (y : PricesValue) → v.prices ≡ cond t (Some y) None → ends_with_none v.columns ≡ t
+    → (t ≡ true → IsPriced v y) → (t ≡ false → v.lists ≡ []) → HasPrices v ⊎ HasNoPrices v
+priced-case v true y given ends p n =
+    let priced : IsPriced v y = p refl in
+    inl (record {
+      named = ends;
+      prices = y;
+      given = given;
+      lists = priced.many;
+      worths = AllZip-long _ v.lists y.worth priced.lists ∙ priced.many;
+    })
+priced-case v false y given ends p n = inr (record { named = ends; prices = given; lists = n refl })
 
 priced-each : (v : LotteryValue) (t : Bool) (y : PricesValue) → (t ≡ true → IsPriced v y) → (t ≡ false → v.lists ≡ []) → MatchOption (cond t (Some y) None) (v.lists ≡ []) (IsPriced v)
 priced-each v true y p n = p refl
@@ -83,12 +93,13 @@ sound-lawful b h e =
     let k = h.body in
     let fill = k.filled (omega arith) in
     let y : PricesValue = record { price = b.prices; worth = b.worths } in
+    let priced : is_priced b ≡ true → IsPriced (lottery_of b) y = λ t. record { prices = k.prices; many = fill.lists t; lists = k.lists } in
     record {
       lottery = record {
         shares = record { one = h.head.positive (omega arith); limit = h.head.denominator; shape = k.units.shape ∙ rw fill.rows refl; total = k.units.total };
         rows = refl;
         columns = refl;
-        priced = priced-case b.columns b.lists (is_priced b) y (sym (priced-ends b.columns h.head.columns)) k.unpriced;
+        priced = priced-case (lottery_of b) (is_priced b) y refl (sym (priced-ends b.columns h.head.columns)) priced k.unpriced;
         weights = k.pieces.weights;
         adds_up = k.whole (omega arith);
         gives = k.pieces.gives;
@@ -96,7 +107,7 @@ sound-lawful b h e =
       agents = h.head.agents;
       agents_many = (h.head.agents_some (omega arith), h.head.agents_many);
       columns = h.head.columns;
-      priced = priced-each (lottery_of b) (is_priced b) y (λ t. record { prices = k.prices; many = fill.lists t; lists = k.lists }) k.unpriced;
+      priced = priced-each (lottery_of b) (is_priced b) y priced k.unpriced;
       pieces = fill.pieces;
       design = refl;
     }

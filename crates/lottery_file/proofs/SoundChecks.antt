@@ -9,7 +9,7 @@ use Rattle.definitions.specs.Texts.{Row, null_name, is_name, name_index, field, 
 use Rattle.definitions.specs.Firsts.{first_among}
 use Rattle.definitions.proofs.Passed.{passed}
 use Rattle.lottery_file.specs.Said.{Before, agent_at, column_at}
-use Rattle.lottery_file.specs.Checks.{weight_sum, follows_last, check_denominator, check_agents, check_agent_name, check_column_name, check_entry, check_entries, check_row, check_price, check_worth, check_piece, check_give, check_end_record, check_kind, check_word, may_follow, is_due, is_priced}
+use Rattle.lottery_file.specs.Checks.{weight_sum, follows_last, check_denominator, check_agents, check_agent_name, check_column_name, check_entry, check_entries, check_row, check_price, check_worth, check_worth_text, check_piece, check_give, check_end_record, check_kind, check_word, may_follow, is_due, is_priced}
 use Rattle.lottery_file.proofs.SoundWords.{stage}
 use Rattle.lottery_file.specs.declared.words.Word.{Word}
 use Rattle.lottery_file.specs.declared.words.Word.TheVariants as word
@@ -64,7 +64,7 @@ price-passed b row e = grind (arith, nat_tests)
 pub worth-passed : (b : Before) (row : Row) → check_worth b row ≡ None
     → (is_some (name_index b.columns (field row 2)) ≡ true) × (list_any (λ j. eqb j (column_at b (field row 2))) b.open_list ≡ false)
     × (nat_abs (signed (field row 3)) ≤ 2 ^ 40)
-unfolding check_worth
+unfolding check_worth check_worth_text
 worth-passed b row e = (grind (arith, nat_tests), grind (arith, nat_tests), grind (arith, nat_tests))
 
 pub piece-passed : (b : Before) (row : Row) → check_piece b row ≡ None

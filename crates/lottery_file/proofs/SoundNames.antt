@@ -7,11 +7,12 @@ use Rattle.std.proofs.lemmas.Bool.{cases_Bool, cases_lt, both_ways, ltb-true, lt
 use Rattle.std.proofs.lemmas.Bool.Decides.{nat_tests}
 use Rattle.std.proofs.lemmas.List.{length_push, get_or_append_left}
 use Rattle.std.proofs.lemmas.List.Elements.{All-nil, All-push}
+use Rattle.std.proofs.lemmas.List.Folds.{list_any_none}
 use Rattle.std.proofs.lemmas.List.Quantifiers.{all_pairs_push, position-Some}
 use Rattle.std.proofs.lemmas.List.Sums.{fails_before_first}
 use Rattle.std.proofs.lemmas.Option.{slice_get_within, get_or_from_slice_get, slice_get-get_or}
 use Rattle.std.proofs.lemmas.Slice.Eq.{bytes_eq-Decides}
-use Rattle.definitions.specs.Texts.{null_name, is_name, name_index}
+use Rattle.definitions.specs.Texts.{null_name, is_name, has_name, name_index}
 use Rattle.definitions.specs.Lotteries.{ends_with_none}
 use Rattle.definitions.specs.Firsts.{first_among}
 use Rattle.definitions.proofs.Passed.{among-keeps}
@@ -24,6 +25,16 @@ pub name-unknown : (names : List (List ℕ)) (name : List ℕ) → is_none (name
 name-unknown names name e k d lt same =
     let past : length names ≤ position_or_len (bytes_eq name) names = grind (arith, nat_tests) in
     both_ways (bytes_eq name (get_or names k d)) (fails_before_first (bytes_eq name) names k d (omega arith)) ((bytes_eq-Decides name (get_or names k d)).1 (sym same))
+
+-- what isn't there has no place
+pub none-from : (o : Option ℕ) → is_some o ≡ false → is_none o ≡ true
+none-from None e = refl
+none-from (Some k) e = cc
+
+-- nor is it said to be there
+pub name-absent : (names : List (List ℕ)) (name : List ℕ) → is_some (name_index names name) ≡ false → has_name names name ≡ false
+name-absent names name e =
+    list_any_none (bytes_eq name) names (λ k d lt. false_from_ne_true _ (λ t. name-unknown names name (none-from (name_index names name) e) k d lt (sym ((bytes_eq-Decides name (get_or names k d)).0 t))))
 
 -- a name that is found stands at its place
 pub name-known : (names : List (List ℕ)) (name : List ℕ) → is_some (name_index names name) ≡ true
@@ -87,7 +98,8 @@ many-push : (names : List (List ℕ)) (name : List ℕ) → (e t : Bool) → len
 many-push names name e true m n l = let k : length names ≤ 200 = rw n at m in omega (arith, length_push names name, k)
 many-push names name e false m n l = omega (arith, length_push names name, ltb-true (length names) 200 l)
 
-columns-push : (names : List (List ℕ)) (name : List ℕ) → check_column_name names name ≡ None → AreColumns names → AreColumns (names ++ name ∷ [])
+-- one more column
+pub columns-push : (names : List (List ℕ)) (name : List ℕ) → check_column_name names name ≡ None → AreColumns names → AreColumns (names ++ name ∷ [])
 columns-push names name c h =
     let p = column-name-passed names name c in
     record {
@@ -99,9 +111,12 @@ columns-push names name c h =
 pub columns-lawful : (fields : List (List ℕ)) → first_among check_column_name fields ≡ None → AreColumns fields
 columns-lawful fields e = among-keeps check_column_name AreColumns columns-push fields e no-columns
 
-none-from : (o : Option ℕ) → is_some o ≡ false → is_none o ≡ true
-none-from None e = refl
-none-from (Some k) e = cc
+few-at : (ends : Bool) (n : ℕ) → n ≤ cond ends 201 200 → n ≤ 201
+few-at true n h = h
+few-at false n h = omega (arith, h)
+
+pub columns-few : (names : List (List ℕ)) → AreColumns names → length names ≤ 201
+columns-few names h = few-at (ends_with_none names) (length names) h.many
 
 ends-at : (names : List (List ℕ)) (k : ℕ) → k < length names → k + 1 ≡ length names → get_or names k [] ≡ null_name → ends_with_none names ≡ true
 ends-at [] k l e same = absurd (omega arith)

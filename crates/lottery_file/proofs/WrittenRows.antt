@@ -9,7 +9,7 @@ use Rattle.definitions.specs.Texts.{Row}
 use Rattle.definitions.specs.Sets.{ScaledValue}
 use Rattle.definitions.specs.Lotteries.{LotteryValue}
 use Rattle.definitions.specs.Values.{PieceValue, PricesValue, prices_value}
-use Rattle.definitions.specs.Pieces.{gives_along}
+use Rattle.definitions.specs.Gives.{gives_along}
 use Rattle.definitions.specs.declared.Give.{Give}
 use Rattle.definitions.specs.declared.Prices.{Prices}
 use Rattle.definitions.proofs.Cells.{index_within}

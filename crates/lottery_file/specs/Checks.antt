@@ -121,15 +121,20 @@ check_price b row = tests (
     ∷ (is_some (count_of (field row 2)), kind.BadNumber)
     ∷ (nat_le (number (field row 2)) (2 ^ 40), kind.OverLimit) ∷ []) None
 
+-- a worth, from -2^40 to 2^40
+unfoldable pub check_worth_text : List ℕ → Option LotteryKind
+check_worth_text text = tests (
+    (is_some (signed_of text), kind.BadNumber)
+    ∷ (nat_le (nat_abs (signed text)) (2 ^ 40), kind.OverLimit) ∷ []) None
+
 unfoldable pub check_worth : Before → Row → Option LotteryKind
 check_worth b row = tests (
     (length row == 4, kind.WrongLength)
     ∷ (is_some (name_index b.agents (field row 1)), kind.UnknownName)
     ∷ (is_at (length b.lists) (name_index b.agents (field row 1)), kind.WrongOrder)
     ∷ (is_some (name_index b.columns (field row 2)), kind.UnknownName)
-    ∷ (not (list_any (λ j. j == column_at b (field row 2)) b.open_list), kind.WrongOrder)
-    ∷ (is_some (signed_of (field row 3)), kind.BadNumber)
-    ∷ (nat_le (nat_abs (signed (field row 3))) (2 ^ 40), kind.OverLimit) ∷ []) None
+    ∷ (not (list_any (λ j. j == column_at b (field row 2)) b.open_list), kind.WrongOrder) ∷ [])
+    (check_worth_text (field row 3))
 
 -- the weights of pieces
 abbrev pub weight_sum : List PieceValue → ℕ

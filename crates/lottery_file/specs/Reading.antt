@@ -1,8 +1,11 @@
 -- What the parts of the reader answer.
 use Rattle.std.specs.Prelude.{◌≡◌, ℕ, List, Option, Some, None, Result, map, MatchResult}
-use Rattle.definitions.specs.Texts.{Row, first_field}
-use Rattle.lottery_file.specs.Said.{Before, add, add_word, word_of, said_by}
+use Rattle.std.specs.Str.{bytes_eq}
+use Rattle.definitions.specs.Texts.{Row, field, first_field, null_name, number, signed}
+use Rattle.definitions.specs.declared.Give.{Give}
+use Rattle.lottery_file.specs.Said.{Before, add, add_word, agent_at, column_at, word_of, said_by}
 use Rattle.lottery_file.specs.Checks.{check_next, check_word, fault_of}
+use Rattle.lottery_file.specs.declared.checks.Place.{Place}
 use Rattle.lottery_file.specs.declared.faults.LotteryKind.{LotteryKind}
 use Rattle.lottery_file.specs.declared.faults.LotteryRefusal.{LotteryRefusal}
 use Rattle.lottery_file.specs.declared.faults.LotteryRefusal.TheVariants as refusal
@@ -33,7 +36,23 @@ abbrev pub StopsAt : Stop → Option LotteryKind → Type 0
 StopsAt (stop.Unlawful k) check = check ≡ Some k
 StopsAt stop.NoMemory check = Unit {0}
 
--- a check passes and leaves what P says, or it fails with the kind that comes first
+-- a check passes, and what was read is as P says; or it fails with the kind that comes first
+abbrev pub Reads : {X : Type 0} → Result X LotteryKind → Option LotteryKind → (X → Type 0) → Type 0
+Reads r check P = MatchResult r (λ x. (check ≡ None) × P x) (λ k. check ≡ Some k)
+
+-- a place of a list as a record says it
+pub record IsPlaceIn (b : Before) (row : Row) (p : Place) : Type 0 where
+  pub column : p.column ≡ column_at b (field row 2)
+  pub worth : p.worth ≡ signed (field row 3)
+  pub last : p.is_last ≡ bytes_eq (field row 2) null_name
+
+-- a give as a record says it
+pub record IsGiveIn (b : Before) (row : Row) (g : Give) : Type 0 where
+  pub agent : g.agent ≡ agent_at b (field row 1)
+  pub object : g.object ≡ column_at b (field row 2)
+  pub count : g.count ≡ number (field row 3)
+
+-- a check passes and leaves what P says, or it fails with the kind that comes first; or memory is refused
 abbrev pub Checks : {X : Type 0} → Result X Stop → Option LotteryKind → (X → Type 0) → Type 0
 Checks r check P = MatchResult r (λ x. (check ≡ None) × P x) (λ e. StopsAt e check)
 

@@ -1,5 +1,6 @@
 -- What the records of a lottery say.
-use Rattle.std.specs.Prelude.{◌+◌, ℕ, ℤ, Bool, true, false, List, [], ◌∷◌, ◌++◌, Option, Some, None, map, drop, codes, if◌then◌else◌}
+use Rattle.std.specs.Prelude.{◌+◌, ◌-◌, ℕ, ℤ, Bool, true, false, List, [], ◌∷◌, ◌++◌, Option, Some, None, map, drop, filter, length, reverse, codes, is_some, slice_index_or, if◌then◌else◌}
+use Rattle.std.specs.List.{before_first}
 use Rattle.std.specs.Option.{unwrap_or}
 use Rattle.std.specs.Str.{bytes_eq}
 use Rattle.definitions.specs.Texts.{Row, field, first_field, number, signed, null_name, name_index}
@@ -115,3 +116,22 @@ said_from b (r ∷ rs) = said_from (add_word (word_of (first_field r)) r b) rs
 -- what these records say
 abbrev pub said_by : List Row → Before
 said_by rows = said_from nothing rows
+
+-- ---- how far records have come, in the words of the records alone
+
+-- the records of some kind
+abbrev pub kind_records : List Row → List Row
+kind_records rows = filter (λ r. is_some (word_of (first_field r))) rows
+
+-- the kind of the last of them
+abbrev pub last_kind : List Row → Option Word
+last_kind rows = word_of (first_field (slice_index_or (kind_records rows) (length (kind_records rows) - 1) []))
+
+-- the records of places after the last one of `none`
+abbrev pub open_places : List Row → List Row
+open_places rows = reverse (before_first (λ r. bytes_eq (field r 2) null_name) (reverse rows))
+
+-- an open list is a list where it has a place
+abbrev pub if_some : {X : Type 0} → List X → List (List X)
+if_some [] = []
+if_some (x ∷ xs) = (x ∷ xs) ∷ []

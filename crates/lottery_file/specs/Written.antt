@@ -1,8 +1,10 @@
 -- The records that a lottery is written as, and its text.
-use Rattle.std.specs.Prelude.{◌≡◌, ℕ, ℤ, ◌+◌, List, [], ◌∷◌, ◌++◌, Option, Some, None, IfSome, length, map, take, drop, codes, slice_index_or}
+use Rattle.std.specs.Prelude.{◌≡◌, ℕ, ℤ, ◌+◌, ◌*◌, List, [], ◌∷◌, ◌++◌, Option, Some, None, IfSome, length, map, take, drop, codes, slice_index_or}
 use Rattle.std.specs.List.{AllZip}
 use Rattle.std.specs.Fmt.{decimal, signed_decimal}
-use Rattle.definitions.specs.Lotteries.{LotteryValue}
+use Rattle.definitions.specs.Gives.{gives_of}
+use Rattle.definitions.specs.Lotteries.{LotteryValue, matrices_of}
+use Rattle.definitions.specs.Pieces.{WeightedMatrix}
 use Rattle.definitions.specs.Sets.{ScaledValue}
 use Rattle.definitions.specs.Texts.{Row}
 use Rattle.definitions.specs.Values.{PieceValue, PricesValue}
@@ -20,6 +22,14 @@ pub record ShapesAgree (agents columns : List (List ℕ)) (shares : ScaledValue)
   pub unit_each : shares.columns ≡ length columns
   pub listed : IfSome prices (λ y. AreListed (length agents) lists y.worth)
 
+-- the shapes of a lottery agree, so that it can be written
+abbrev pub CanBeWritten : LotteryValue → Type 0
+CanBeWritten l = ShapesAgree l.agents l.columns l.shares l.lists l.prices
+
+-- the units of the agent with this number, by its name
+abbrev pub share_row : List ℕ → ℕ → ScaledValue → Row
+share_row name agent x = codes "row" ∷ name ∷ map decimal (take x.columns (drop (agent * x.columns) x.units))
+
 -- for each agent its units of every column, of which there are so many
 abbrev pub share_rows : List (List ℕ) → ℕ → List ℕ → List Row
 share_rows [] columns units = []
@@ -31,10 +41,14 @@ abbrev pub price_rows : ℕ → List ℕ → List Row
 price_rows set [] = []
 price_rows set (price ∷ prices) = (codes "price" ∷ decimal set ∷ decimal price ∷ []) ∷ price_rows (set + 1) prices
 
+-- the worth of a place of an agent's list, by the name of its column
+abbrev pub worth_row : List ℕ → List ℕ → ℤ → Row
+worth_row agent column worth = codes "worth" ∷ agent ∷ column ∷ signed_decimal worth ∷ []
+
 -- the worth of each place of an agent's list
 abbrev pub place_rows : List ℕ → List (List ℕ) → List ℕ → List ℤ → List Row
 place_rows agent columns (column ∷ list) (worth ∷ worths) =
-    (codes "worth" ∷ agent ∷ slice_index_or columns column [] ∷ signed_decimal worth ∷ []) ∷ place_rows agent columns list worths
+    worth_row agent (slice_index_or columns column []) worth ∷ place_rows agent columns list worths
 place_rows agent columns list worths = []
 
 -- the worths of all lists, agent by agent
@@ -88,3 +102,21 @@ rows_of l = head_rows l.agents l.columns l.shares l.lists l.prices ++ (pieces_ro
 -- the text of a lottery of version 1
 abbrev pub lottery_text : LotteryValue → List ℕ
 lottery_text l = rows_text (rows_of l)
+
+-- the text of the piece with this number, by its counts at the cells, row by row
+abbrev pub piece_text : List (List ℕ) → List (List ℕ) → ℕ → ℕ → List ℕ → List ℕ
+piece_text agents columns number weight counts =
+    rows_text (piece_rows agents columns number (record { weight = weight; gives = gives_of (length columns) counts }))
+
+-- what `write_piece` appends of one piece after the other, with the numbers from this one on: the counts of a piece are those of
+-- its matrix
+unfoldable pub pieces_written : List (List ℕ) → List (List ℕ) → ℕ → List WeightedMatrix → List ℕ
+pieces_written agents columns number [] = []
+pieces_written agents columns number (p ∷ ps) =
+    piece_text agents columns number p.weight p.matrix ++ pieces_written agents columns (number + 1) ps
+
+-- what `write_head`, then `write_piece` of each piece and then `write_end` append
+abbrev pub parts_text : LotteryValue → List ℕ
+parts_text l =
+    rows_text (head_rows l.agents l.columns l.shares l.lists l.prices)
+    ++ (pieces_written l.agents l.columns 1 (matrices_of l) ++ rows_text (end_row (length l.pieces) ∷ []))

@@ -1,20 +1,20 @@
-// Pieces and the end.
+// The pieces of a lottery, appended one by one or put all together.
 ghost use Rattle.std.specs.Prelude.{◌≡◌, ◌*◌, ◌<◌, ◌++◌, ◌∷◌, [], length, map, OnOk};
-ghost use Rattle.definitions.specs.Pieces.{gives_of, gives_along};
+ghost use Rattle.definitions.specs.Gives.{gives_of, gives_along};
 ghost use Rattle.definitions.specs.Values.{piece_value};
 ghost use Rattle.table_text.specs.Rows.{rows_text};
 ghost use Rattle.lottery_file.specs.Buffers.{Puts};
-ghost use Rattle.lottery_file.specs.Written.{give_row, piece_rows, pieces_rows, end_row};
+ghost use Rattle.lottery_file.specs.Written.{give_row, piece_rows, pieces_rows, piece_text};
 
 use crate::puts::put_made;
-use crate::rows::{row_of_give, row_of_number, row_of_two};
+use crate::rows::row_of_give;
 use device_core::{Sink, SinkFault};
 use quota_sets::{Give, Names, Piece};
 use std::alloc::Global;
-use table_text::{NoMemory, row_bytes};
+use table_text::{NoMemory, put_two, row_bytes, row_of_two};
 
 // Appends the give of a count, where it isn't 0.
-#[tactic(auto, unfolding(definitions::specs::Pieces::gives_along))]
+#[tactic(auto, unfolding(definitions::specs::Gives::gives_along))]
 fn add_count(
     alloc: Global,
     agents: &Names,
@@ -24,7 +24,9 @@ fn add_count(
     into: &mut Vec<u8>,
 ) -> Result<(), NoMemory>
     requires { cell < length agents.now * length columns.now }
-    ensures { OnOk result (into.new.items ≡ into.old.items ++ rows_text (map (give_row agents.now columns.now) (gives_along (length columns.now) cell (count ∷ [])))) }
+    ensures { OnOk result (into.new.items ≡ into.old.items
+        ++ rows_text (map (give_row agents.now columns.now)
+        (gives_along (length columns.now) cell (count ∷ [])))) }
 {
     if count == 0 {
         return Ok(());
@@ -49,7 +51,9 @@ fn add_gives(
     into: &mut Vec<u8>,
 ) -> Result<(), NoMemory>
     requires { length counts.now ≡ length agents.now * length columns.now }
-    ensures { OnOk result (into.new.items ≡ into.old.items ++ rows_text (map (give_row agents.now columns.now) (gives_of (length columns.now) counts.now))) }
+    ensures { OnOk result (into.new.items ≡ into.old.items
+        ++ rows_text (map (give_row agents.now columns.now)
+        (gives_of (length columns.now) counts.now))) }
 {
     for (cell, count) in counts.iter().enumerate() {
         add_count(alloc, agents, columns, cell, *count, into)?;
@@ -69,11 +73,10 @@ pub(crate) fn add_piece(
     into: &mut Vec<u8>,
 ) -> Result<(), NoMemory>
     requires { length counts.now ≡ length agents.now * length columns.now }
-    ensures { OnOk result (into.new.items ≡ into.old.items ++
-        rows_text (piece_rows agents.now columns.now number (record { weight = weight; gives = gives_of (length columns.now) counts.now }))) }
+    ensures { OnOk result (into.new.items ≡ into.old.items
+        ++ piece_text agents.now columns.now number weight counts.now) }
 {
-    let row = row_of_two(alloc, b"piece", number as u128, weight)?;
-    row_bytes(alloc, &row, into)?;
+    put_two(alloc, b"piece", number as u128, weight, into)?;
     add_gives(alloc, agents, columns, counts, into)
 }
 
@@ -86,14 +89,13 @@ fn put_gives<K: Sink>(
     buffer: &mut Vec<u8>,
     out: &mut K,
 ) -> Result<(), SinkFault>
-    ensures { Puts K.written K.flushed K.faults K.short out.old out.new buffer.old.items buffer.new.items
+    ensures { Puts K.written K.flushed K.faults K.short out.old out.new
+        buffer.old.items buffer.new.items
         (rows_text (map (give_row agents.now columns.now) gives.now)) result }
 {
     for give in gives {
         let row = row_of_give(alloc, agents, columns, *give);
-        if let Err(fault) = put_made(alloc, row, buffer, out) {
-            return Err(fault);
-        }
+        put_made(alloc, row, buffer, out)?;
     }
     Ok(())
 }
@@ -108,13 +110,12 @@ fn put_piece<K: Sink>(
     buffer: &mut Vec<u8>,
     out: &mut K,
 ) -> Result<(), SinkFault>
-    ensures { Puts K.written K.flushed K.faults K.short out.old out.new buffer.old.items buffer.new.items
+    ensures { Puts K.written K.flushed K.faults K.short out.old out.new
+        buffer.old.items buffer.new.items
         (rows_text (piece_rows agents.now columns.now number (piece_value piece.now))) result }
 {
     let row = row_of_two(alloc, b"piece", number, piece.weight);
-    if let Err(fault) = put_made(alloc, row, buffer, out) {
-        return Err(fault);
-    }
+    put_made(alloc, row, buffer, out)?;
     put_gives(alloc, agents, columns, &piece.gives, buffer, out)
 }
 
@@ -127,22 +128,12 @@ pub(crate) fn put_pieces<K: Sink>(
     buffer: &mut Vec<u8>,
     out: &mut K,
 ) -> Result<(), SinkFault>
-    ensures { Puts K.written K.flushed K.faults K.short out.old out.new buffer.old.items buffer.new.items
+    ensures { Puts K.written K.flushed K.faults K.short out.old out.new
+        buffer.old.items buffer.new.items
         (rows_text (pieces_rows agents.now columns.now 1 (map piece_value pieces.now))) result }
 {
     for (i, piece) in pieces.iter().enumerate() {
-        if let Err(fault) = put_piece(alloc, agents, columns, i as u128 + 1, piece, buffer, out) {
-            return Err(fault);
-        }
+        put_piece(alloc, agents, columns, i as u128 + 1, piece, buffer, out)?;
     }
     Ok(())
-}
-
-// Appends the record at the end, with the number of pieces.
-#[tactic(auto, unfolding(crate::specs::Written::end_row))]
-pub(crate) fn add_end(alloc: Global, pieces: u64, into: &mut Vec<u8>) -> Result<(), NoMemory>
-    ensures { OnOk result (into.new.items ≡ into.old.items ++ rows_text (end_row pieces ∷ [])) }
-{
-    let row = row_of_number(alloc, b"end", pieces as u128)?;
-    row_bytes(alloc, &row, into)
 }

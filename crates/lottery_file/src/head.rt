@@ -1,4 +1,4 @@
-// The records before the first piece.
+// The records before the first piece, put one after the other. Of pieces nothing is known here.
 ghost use Rattle.std.specs.Prelude.{◌≡◌, ◌∷◌, [], codes, length, map, option_map};
 ghost use Rattle.std.specs.Fmt.{decimal};
 ghost use Rattle.definitions.specs.Values.{prices_value};
@@ -8,12 +8,11 @@ ghost use Rattle.lottery_file.specs.Lotteries.{lists_value};
 ghost use Rattle.lottery_file.specs.Written.{head_rows, name_rows, share_rows, price_rows, place_rows, worth_rows, priced_rows, AreListed, ShapesAgree};
 
 use crate::puts::put_made;
-use crate::rows::{
-    name_at, row_of_names, row_of_number, row_of_two, row_of_units, row_of_words, row_of_worth,
-};
+use crate::rows::{row_of_names, row_of_units, row_of_worth};
 use device_core::{Sink, SinkFault};
 use quota_sets::{Names, Prices, Scaled};
 use std::alloc::Global;
+use table_text::{row_of_number, row_of_two, row_of_words};
 
 // Puts the version, the denominator and the names.
 fn put_names<K: Sink>(
@@ -24,19 +23,15 @@ fn put_names<K: Sink>(
     buffer: &mut Vec<u8>,
     out: &mut K,
 ) -> Result<(), SinkFault>
-    ensures { Puts K.written K.flushed K.faults K.short out.old out.new buffer.old.items buffer.new.items (rows_text (name_rows denominator agents.now columns.now)) result }
+    ensures { Puts K.written K.flushed K.faults K.short out.old out.new
+        buffer.old.items buffer.new.items
+        (rows_text (name_rows denominator agents.now columns.now)) result }
 {
-    if let Err(fault) = put_made(alloc, row_of_words(alloc, b"lottery", b"1"), buffer, out) {
-        return Err(fault);
-    }
+    put_made(alloc, row_of_words(alloc, b"lottery", b"1"), buffer, out)?;
     let row = row_of_number(alloc, b"denominator", denominator);
-    if let Err(fault) = put_made(alloc, row, buffer, out) {
-        return Err(fault);
-    }
+    put_made(alloc, row, buffer, out)?;
     let row = row_of_names(alloc, b"agents", agents);
-    if let Err(fault) = put_made(alloc, row, buffer, out) {
-        return Err(fault);
-    }
+    put_made(alloc, row, buffer, out)?;
     put_made(alloc, row_of_names(alloc, b"objects", columns), buffer, out)
 }
 
@@ -49,14 +44,13 @@ fn put_shares<K: Sink>(
     out: &mut K,
 ) -> Result<(), SinkFault>
     requires { shares.now.agents ≡ length agents.now }
-    ensures { Puts K.written K.flushed K.faults K.short out.old out.new buffer.old.items buffer.new.items
+    ensures { Puts K.written K.flushed K.faults K.short out.old out.new
+        buffer.old.items buffer.new.items
         (rows_text (share_rows agents.now shares.now.columns shares.now.units)) result }
 {
     for agent in 0..shares.agents() {
-        let row = row_of_units(alloc, name_at(agents, agent), agent, shares);
-        if let Err(fault) = put_made(alloc, row, buffer, out) {
-            return Err(fault);
-        }
+        let row = row_of_units(alloc, agents.name_at(agent), agent, shares);
+        put_made(alloc, row, buffer, out)?;
     }
     Ok(())
 }
@@ -68,13 +62,13 @@ fn put_prices<K: Sink>(
     buffer: &mut Vec<u8>,
     out: &mut K,
 ) -> Result<(), SinkFault>
-    ensures { Puts K.written K.flushed K.faults K.short out.old out.new buffer.old.items buffer.new.items (rows_text (price_rows 1 prices.now)) result }
+    ensures { Puts K.written K.flushed K.faults K.short out.old out.new
+        buffer.old.items buffer.new.items
+        (rows_text (price_rows 1 prices.now)) result }
 {
     for (i, price) in prices.iter().enumerate() {
         let row = row_of_two(alloc, b"price", i as u128 + 1, *price as u128);
-        if let Err(fault) = put_made(alloc, row, buffer, out) {
-            return Err(fault);
-        }
+        put_made(alloc, row, buffer, out)?;
     }
     Ok(())
 }
@@ -90,14 +84,13 @@ fn put_places<K: Sink>(
     out: &mut K,
 ) -> Result<(), SinkFault>
     requires { length worths.now ≡ length list.now }
-    ensures { Puts K.written K.flushed K.faults K.short out.old out.new buffer.old.items buffer.new.items
+    ensures { Puts K.written K.flushed K.faults K.short out.old out.new
+        buffer.old.items buffer.new.items
         (rows_text (place_rows agent.now columns.now list.now worths.now)) result }
 {
     for i in 0..list.len() {
-        let row = row_of_worth(alloc, agent, name_at(columns, list[i]), worths[i]);
-        if let Err(fault) = put_made(alloc, row, buffer, out) {
-            return Err(fault);
-        }
+        let row = row_of_worth(alloc, agent, columns.name_at(list[i]), worths[i]);
+        put_made(alloc, row, buffer, out)?;
     }
     Ok(())
 }
@@ -112,24 +105,17 @@ fn put_worths<K: Sink>(
     buffer: &mut Vec<u8>,
     out: &mut K,
 ) -> Result<(), SinkFault>
-    requires { AreListed (length agents.now) (lists_value lists.now) (map (λ w. w.items) worths.now) }
-    ensures { Puts K.written K.flushed K.faults K.short out.old out.new buffer.old.items buffer.new.items
-        (rows_text (worth_rows agents.now columns.now (lists_value lists.now) (map (λ w. w.items) worths.now))) result }
+    requires { AreListed (length agents.now)
+        (lists_value lists.now) (map (λ w. w.items) worths.now) }
+    ensures { Puts K.written K.flushed K.faults K.short out.old out.new
+        buffer.old.items buffer.new.items
+        (rows_text (worth_rows agents.now columns.now
+        (lists_value lists.now) (map (λ w. w.items) worths.now))) result }
 {
     for i in 0..agents.len() {
         let list = &lists[i as usize];
         let worth = &worths[i as usize];
-        if let Err(fault) = put_places(
-            alloc,
-            name_at(agents, i),
-            columns,
-            list,
-            worth,
-            buffer,
-            out,
-        ) {
-            return Err(fault);
-        }
+        put_places(alloc, agents.name_at(i), columns, list, worth, buffer, out)?;
     }
     Ok(())
 }
@@ -144,13 +130,14 @@ fn put_priced<K: Sink>(
     buffer: &mut Vec<u8>,
     out: &mut K,
 ) -> Result<(), SinkFault>
-    requires { AreListed (length agents.now) (lists_value lists.now) (prices_value prices.now).worth }
-    ensures { Puts K.written K.flushed K.faults K.short out.old out.new buffer.old.items buffer.new.items
-        (rows_text (priced_rows agents.now columns.now (lists_value lists.now) (Some (prices_value prices.now)))) result }
+    requires { AreListed (length agents.now)
+        (lists_value lists.now) (prices_value prices.now).worth }
+    ensures { Puts K.written K.flushed K.faults K.short out.old out.new
+        buffer.old.items buffer.new.items
+        (rows_text (priced_rows agents.now columns.now
+        (lists_value lists.now) (Some (prices_value prices.now)))) result }
 {
-    if let Err(fault) = put_prices(alloc, &prices.price, buffer, out) {
-        return Err(fault);
-    }
+    put_prices(alloc, &prices.price, buffer, out)?;
     put_worths(alloc, agents, columns, lists, &prices.worth, buffer, out)
 }
 
@@ -165,17 +152,16 @@ pub(crate) fn put_head<K: Sink>(
     buffer: &mut Vec<u8>,
     out: &mut K,
 ) -> Result<(), SinkFault>
-    requires { ShapesAgree agents.now columns.now shares.now (lists_value lists.now) (option_map (λ y. prices_value y.now) prices) }
-    ensures { Puts K.written K.flushed K.faults K.short out.old out.new buffer.old.items buffer.new.items
-        (rows_text (head_rows agents.now columns.now shares.now (lists_value lists.now) (option_map (λ y. prices_value y.now) prices.entry))) result }
+    requires { ShapesAgree agents.now columns.now shares.now
+        (lists_value lists.now) (option_map (λ y. prices_value y.now) prices) }
+    ensures { Puts K.written K.flushed K.faults K.short out.old out.new
+        buffer.old.items buffer.new.items
+        (rows_text (head_rows agents.now columns.now shares.now
+        (lists_value lists.now) (option_map (λ y. prices_value y.now) prices.entry))) result }
 {
     let denominator = shares.denominator();
-    if let Err(fault) = put_names(alloc, denominator, agents, columns, buffer, out) {
-        return Err(fault);
-    }
-    if let Err(fault) = put_shares(alloc, agents, shares, buffer, out) {
-        return Err(fault);
-    }
+    put_names(alloc, denominator, agents, columns, buffer, out)?;
+    put_shares(alloc, agents, shares, buffer, out)?;
     match prices {
         Some(prices) => put_priced(alloc, agents, columns, lists, prices, buffer, out),
         None => Ok(()),

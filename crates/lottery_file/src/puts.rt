@@ -1,4 +1,5 @@
-// Records that are put into a buffer, which is written whenever it is long enough.
+// Records that are put into a buffer, which is written whenever it is long enough. What a record
+// says isn't known here.
 ghost use Rattle.std.specs.Prelude.{◌<◌, ◌≡◌, ◌∷◌, [], ℕ, List, length, IfOk};
 ghost use Rattle.std.specs.Result.{ForOk};
 ghost use Rattle.table_text.specs.Rows.{rows_text};
@@ -13,15 +14,13 @@ const BLOCK: usize = 65_536;
 
 // Writes what waits.
 fn write_block<K: Sink>(buffer: &mut Vec<u8>, out: &mut K) -> Result<(), SinkFault>
-    ensures { Puts K.written K.flushed K.faults K.short out.old out.new buffer.old.items buffer.new.items [] result }
+    ensures { Puts K.written K.flushed K.faults K.short out.old out.new
+        buffer.old.items buffer.new.items
+        [] result }
 {
-    match out.write(buffer) {
-        Ok(()) => {
-            buffer.clear();
-            Ok(())
-        }
-        Err(fault) => Err(fault),
-    }
+    out.write(buffer)?;
+    buffer.clear();
+    Ok(())
 }
 
 // Puts a record.
@@ -32,11 +31,11 @@ fn put_row<K: Sink>(
     out: &mut K,
 ) -> Result<(), SinkFault>
     requires { 0 < length row.now }
-    ensures { Puts K.written K.flushed K.faults K.short out.old out.new buffer.old.items buffer.new.items (rows_text (row.now ∷ [])) result }
+    ensures { Puts K.written K.flushed K.faults K.short out.old out.new
+        buffer.old.items buffer.new.items
+        (rows_text (row.now ∷ [])) result }
 {
-    if row_bytes(alloc, row, buffer).is_err() {
-        return Err(SinkFault::NoMemory);
-    }
+    row_bytes(alloc, row, buffer).map_err(|_| SinkFault::NoMemory)?;
     if buffer.len() <= BLOCK {
         return Ok(());
     }
@@ -52,10 +51,10 @@ pub(crate) fn put_made<K: Sink>(
 ) -> Result<(), SinkFault>
     requires { ForOk made (λ row. 0 < length row) }
     ensures { (row : List (List ℕ)) → IfOk made (λ r. r ≡ row) →
-        Puts K.written K.flushed K.faults K.short out.old out.new buffer.old.items buffer.new.items (rows_text (row ∷ [])) result }
+        Puts K.written K.flushed K.faults K.short out.old out.new
+        buffer.old.items buffer.new.items
+        (rows_text (row ∷ [])) result }
 {
-    match made {
-        Ok(row) => put_row(alloc, &row, buffer, out),
-        Err(NoMemory) => Err(SinkFault::NoMemory),
-    }
+    let row = made.map_err(|_| SinkFault::NoMemory)?;
+    put_row(alloc, &row, buffer, out)
 }

@@ -1,3 +1,5 @@
+// The records of a text, one after the other, and the lottery that they make. What one record says
+// isn't known here.
 ghost use Rattle.std.specs.Prelude.{◌≡◌};
 ghost use Rattle.definitions.specs.Sets.{IsScaledMatrix};
 ghost use Rattle.lottery_file.specs.Said.{nothing};
@@ -5,8 +7,9 @@ ghost use Rattle.lottery_file.specs.Lotteries.{lottery_of, lottery_value};
 ghost use Rattle.lottery_file.specs.Reading.{held, ReadsRecords};
 
 use crate::Lottery;
+use crate::checks::is_priced;
 use crate::faults::{LotteryFault, LotteryKind, LotteryRefusal, refused};
-use crate::records::{is_priced, take_record};
+use crate::records::take_record;
 use crate::state::State;
 use crate::totals::{PieceList, Units};
 use crate::words::is_ended;
@@ -47,11 +50,8 @@ pub(crate) fn read_records(alloc: Global, rows: &Rows) -> Result<State, LotteryR
     if is_ended(state.last) {
         return Ok(state);
     }
-    let Some(record_no) = (rows.len() as u64).checked_add(1) else {
-        return Err(LotteryRefusal::NoMemory);
-    };
     Err(LotteryRefusal::Fault(LotteryFault {
-        record_no,
+        record_no: rows.next_number(),
         kind: LotteryKind::CutOff,
     }))
 }

@@ -1,3 +1,4 @@
+// What a reader has read so far.
 ghost use Rattle.std.specs.Prelude.{◌≤◌, ◌^◌};
 
 use crate::totals::{PieceList, Units};

@@ -1,10 +1,11 @@
+// Lists that are read, with their sums.
 ghost use Rattle.std.specs.Prelude.{◌≡◌, ◌<◌, ◌+◌, ◌^◌, ◌∷◌, ◌++◌, [], length, map, sum, OnOk, OnErr};
 ghost use Rattle.definitions.specs.Values.{piece_value};
 ghost use Rattle.lottery_file.specs.Said.{onto_last};
 ghost use Rattle.lottery_file.specs.Checks.{weight_sum, comes_after, follows_gives, follows_last};
 
-use quota_sets::{Give, NoMemory, Piece, Pieces};
-use std::alloc::Global;
+use quota_sets::{Give, Piece, Pieces};
+use std::alloc::{AllocError, Global};
 use std::marker::Model;
 
 /// Numbers with their sum.
@@ -40,14 +41,12 @@ impl Units {
         self.total
     }
 
-    pub fn push(&mut self, n: u128) -> Result<(), NoMemory>
+    pub fn push(&mut self, n: u128) -> Result<(), AllocError>
         requires { sum self.old + n < 2 ^ 128 }
         ensures ok { OnOk result (self.new ≡ self.old ++ n ∷ []) }
         ensures err { OnErr result (self.new ≡ self.old) }
     {
-        if self.list.push(n).is_err() {
-            return Err(NoMemory);
-        }
+        self.list.push(n)?;
         self.total += n;
         Ok(())
     }
@@ -103,23 +102,22 @@ impl PieceList {
     }
 
     /// One more piece, without gives.
-    pub fn begin(&mut self, alloc: Global, weight: u128) -> Result<(), NoMemory>
+    pub fn begin(&mut self, alloc: Global, weight: u128) -> Result<(), AllocError>
         requires { weight_sum self.old + weight < 2 ^ 128 }
-        ensures { OnOk result (self.new ≡ self.old ++ (record { weight = weight; gives = [] }) ∷ []) }
+        ensures { OnOk result (self.new
+            ≡ self.old ++ (record { weight = weight; gives = [] }) ∷ []) }
     {
         let piece = Piece {
             weight,
             gives: Vec::new(alloc),
         };
-        if self.list.push(piece).is_err() {
-            return Err(NoMemory);
-        }
+        self.list.push(piece)?;
         self.weight += weight;
         Ok(())
     }
 
     /// One more give of the last piece.
-    pub fn give(&mut self, give: Give) -> Result<(), NoMemory>
+    pub fn give(&mut self, give: Give) -> Result<(), AllocError>
         ensures { OnOk result (self.new ≡ onto_last give self.old) }
     {
         let n = self.list.len();
@@ -127,9 +125,7 @@ impl PieceList {
             return Ok(());
         }
         let piece = &mut self.list[n - 1];
-        if piece.gives.push(give).is_err() {
-            return Err(NoMemory);
-        }
+        piece.gives.push(give)?;
         Ok(())
     }
 

@@ -1,7 +1,9 @@
+// The kinds of records, and which may follow which.
 ghost use Rattle.std.specs.Prelude.{◌≡◌};
-ghost use Rattle.std.specs.Str.{bytes_eq};
 ghost use Rattle.lottery_file.specs.Said.{word_of};
 ghost use Rattle.lottery_file.specs.Checks.{may_follow, is_ended};
+
+use table_text::is_word;
 
 /// The kinds of records, by their first field.
 #[derive(Clone, Copy, Debug)]
@@ -16,12 +18,6 @@ pub(crate) enum Word {
     Piece,
     Give,
     End,
-}
-
-pub(crate) fn is_word(text: &[u8], word: &[u8]) -> bool
-    ensures { result ≡ bytes_eq text.now word.now }
-{
-    text == word
 }
 
 // The kind of a record with this first field.

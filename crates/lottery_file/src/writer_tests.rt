@@ -1,9 +1,11 @@
-// What is written of a lottery reads back, and what a refused write leaves.
+// What is written of a lottery reads back, whole or by its parts, and what a refused write leaves.
 use super::*;
-use crate::tests::PLAIN;
-use device_core::{MemorySink, SinkFault, SureSink};
-use std::process::Abort;
+use device_core::{MemorySink, Sink, SinkFault, SureSink};
 use std::test::Fail;
+
+// Two agents who share two objects, without prices.
+const PLAIN: &str = "lottery,1\ndenominator,2\nagents,x,y\nobjects,a,b\nrow,x,1,1\nrow,y,1,1\n\
+    piece,1,1\ngive,x,a,1\ngive,y,b,1\npiece,2,1\ngive,x,b,1\ngive,y,a,1\nend,2\n";
 
 // Two agents with their lists and a price, and names that have to be quoted.
 const PRICED: &str =
@@ -14,63 +16,44 @@ const PRICED: &str =
     piece,1,1\ngive,\"Lee, Ada\",North,1\ngive,\"O\"\"Dea, Jo\",South,1\n\
     piece,2,1\ngive,\"Lee, Ada\",South,1\ngive,\"O\"\"Dea, Jo\",North,1\nend,2\n";
 
-// Whether a lottery that a text says is written as that text, and reads back with the same lists and pieces.
-fn is_rewritten(alloc: Global, text: &[u8]) -> Result<bool, Fail> {
-    let lottery = read_lottery(alloc, text)?;
-    let mut sink = SureSink::new(alloc);
-    write_lottery(alloc, &lottery, &mut sink)?;
-    let again = read_lottery(alloc, sink.bytes())?;
-    Ok(sink.bytes() == text && again.lists == lottery.lists && again.pieces == lottery.pieces)
-}
-
 #[test]
-fn plain_lottery_is_written(rt: HostRuntime) -> Result<(), Fail> {
-    assert!(rt; is_rewritten(rt.alloc(), PLAIN.as_bytes())?);
+fn priced_lottery_is_rewritten(rt: HostRuntime) -> Result<(), Fail> {
+    let lottery = read_lottery(rt.alloc(), PRICED.as_bytes())?;
+    let mut sink = SureSink::new(rt.alloc());
+    write_lottery(rt.alloc(), &lottery, &mut sink)?;
+    assert_eq!(rt; sink.bytes(), PRICED.as_bytes());
     Ok(())
 }
 
-#[test]
-fn priced_lottery_is_written(rt: HostRuntime) -> Result<(), Fail> {
-    assert!(rt; is_rewritten(rt.alloc(), PRICED.as_bytes())?);
-    Ok(())
+// Writes the plain lottery by its parts.
+fn write_parts<K: Sink>(alloc: Global, out: &mut K) -> Result<Result<(), SinkFault>, Fail> {
+    let lottery = read_lottery(alloc, PLAIN.as_bytes())?;
+    let (agents, columns) = (&lottery.agents, &lottery.columns);
+    if agents.len() != 2 || columns.len() != 2 {
+        Err("not two by two")?;
+    }
+    write_head(alloc, agents, columns, &lottery.shares, &[], None, out)?;
+    write_piece(alloc, agents, columns, 1, 1, &[1, 0, 0, 1], out)?;
+    if let Err(fault) = write_piece(alloc, agents, columns, 2, 1, &[0, 1, 1, 0], out) {
+        return Ok(Err(fault));
+    }
+    Ok(write_end(alloc, 2, out))
 }
 
-// The head and a piece of two agents over two columns, where the second write keeps so many bytes and fails: what was
-// written is a front of the text.
-fn keeps_a_front(rt: &impl Abort, alloc: Global, text: &[u8], kept: usize) -> Result<bool, Fail> {
-    let lottery = read_lottery(alloc, text)?;
-    let agents = &lottery.agents;
-    let columns = &lottery.columns;
-    assert_eq!(rt; agents.len(), 2);
-    assert_eq!(rt; columns.len(), 2);
-    let mut sink = MemorySink::new(alloc, vec![in alloc; (1, kept)]?);
-    write_head(
-        alloc,
-        agents,
-        columns,
-        &lottery.shares,
-        &[],
-        None,
-        &mut sink,
-    )?;
-    let head = sink.bytes().len();
-    let refused = write_piece(alloc, agents, columns, 1, 1, &[1, 0, 0, 1], &mut sink);
-    assert_eq!(rt; refused, Err(SinkFault::Failed));
-    let front = sink.bytes();
-    Ok(front.len().checked_sub(head) == Some(kept) && text.starts_with(front))
+#[test]
+fn parts_are_the_text(rt: HostRuntime) -> Result<(), Fail> {
+    let mut sink = SureSink::new(rt.alloc());
+    write_parts(rt.alloc(), &mut sink)??;
+    assert_eq!(rt; sink.bytes(), PLAIN.as_bytes());
+    Ok(())
 }
 
 #[test]
 fn a_refused_piece_leaves_a_front(rt: HostRuntime) -> Result<(), Fail> {
-    assert!(rt; keeps_a_front(&rt, rt.alloc(), PLAIN.as_bytes(), 0)?);
-    assert!(rt; keeps_a_front(&rt, rt.alloc(), PLAIN.as_bytes(), 9)?);
-    Ok(())
-}
-
-#[test]
-fn an_end_is_written(rt: HostRuntime) -> Result<(), Fail> {
-    let mut sink = SureSink::new(rt.alloc());
-    write_end(rt.alloc(), 2, &mut sink)?;
-    assert_eq!(rt; sink.bytes(), b"end,2\n".as_slice());
+    let mut sink = MemorySink::new(rt.alloc(), vec![in rt.alloc(); (2, 9)]?);
+    let refused = write_parts(rt.alloc(), &mut sink)?;
+    assert_eq!(rt; refused, Err(SinkFault::Failed));
+    assert!(rt; sink.bytes().ends_with(b"piece,2,1"));
+    assert!(rt; PLAIN.as_bytes().starts_with(sink.bytes()));
     Ok(())
 }

@@ -7,10 +7,10 @@ use Rattle.lottery_file.proofs.read_lottery.Goals as goal
 
 pub finished-requires : goal.finished-requires
 finished-requires c =
-    let reads = c.in-Ok-read_records.ensures in
-    subst (λ (b : Before). IsScaledMatrix (lottery_of b).shares) (sym reads.1) ((reads-lawful c.in-Ok.rows reads.0).lottery.shares)
+    let reads = c.in_ok-state.ensures in
+    subst (λ (b : Before). IsScaledMatrix (lottery_of b).shares) (sym reads.1) ((reads-lawful c.in_ok-rows.rows reads.0).lottery.shares)
 
-pub returns-in-Ok-read_records-clause-lawful : goal.returns-in-Ok-read_records-clause-lawful
-returns-in-Ok-read_records-clause-lawful c =
-    let reads = c.in-Ok-read_records.ensures in
-    subst IsLawfulLottery (sym (c.finished.ensures ∙ ap lottery_of reads.1)) (reads-lawful c.in-Ok.rows reads.0)
+pub returns-clause-lawful : goal.returns-clause-lawful
+returns-clause-lawful c =
+    let reads = c.in_ok-state.ensures in
+    subst IsLawfulLottery (sym (c.finished.ensures ∙ ap lottery_of reads.1)) (reads-lawful c.in_ok-rows.rows reads.0)

@@ -1,5 +1,5 @@
 use Rattle.std.proofs.Common.{sym, append-nil, arith}
-use Rattle.definitions.specs.Pieces.{gives_along}
+use Rattle.definitions.specs.Gives.{gives_along}
 use Rattle.lottery_file.proofs.WrittenRows.{gives_next}
 use Rattle.lottery_file.proofs.body.add_gives.Goals as goal
 

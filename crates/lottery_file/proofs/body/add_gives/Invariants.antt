@@ -1,5 +1,5 @@
 use Rattle.std.proofs.Common.{◌≡◌, ◌++◌, length, map, take}
-use Rattle.definitions.specs.Pieces.{gives_along}
+use Rattle.definitions.specs.Gives.{gives_along}
 use Rattle.lottery_file.specs.Written.{give_row}
 use Rattle.table_text.specs.Rows.{rows_text}
 use Rattle.lottery_file.proofs.body.add_gives.Given as goal

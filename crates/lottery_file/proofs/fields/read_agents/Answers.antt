@@ -2,16 +2,17 @@ use Rattle.std.proofs.Common.{◌≡◌, ◌∙◌, ◌<◌, ◌≤◌, sym, ari
 use Rattle.std.proofs.lemmas.List.{length-drop, take_all, take_more}
 use Rattle.lottery_file.specs.Checks.{check_agent_name}
 use Rattle.definitions.proofs.Passed.{among-next, among-all, field-after}
-use Rattle.lottery_file.proofs.FieldFacts.{field-stops}
+use Rattle.lottery_file.proofs.FieldFacts.{field-stops, stop-kept}
 use Rattle.lottery_file.proofs.fields.read_agents.Goals as goal
 
-pub returns-in-Err : goal.returns-in-Err
-returns-in-Err c =
+pub returns-in_err-take_agent_name : goal.returns-in_err-take_agent_name
+returns-in_err-take_agent_name c =
     let inv = c.loop-j.invariant in
     let fs = drop 1 c.args.row.now in
     let lt : c.loop-j.j < length fs = omega (arith, length-drop 1 c.args.row.now) in
     let x : c.field.result.now ≡ get_or fs c.loop-j.j [] = c.field.ensures ∙ field-after c.args.row.now 1 c.loop-j.j [] in
-    field-stops check_agent_name fs c.loop-j.j c.in-Err.stop lt inv.0 (rw (x, inv.1) at c.in-Err.ensures)
+    stop-kept _ c.from_residual.result c.in_err-take_agent_name.field-0.0 _ c.from_residual.ensures.1
+    (field-stops check_agent_name fs c.loop-j.j _ lt inv.0 (rw (x, inv.1) at c.in_err-take_agent_name.ensures))
 
 pub loop-j-preserved : goal.loop-j-preserved
 loop-j-preserved c =
@@ -19,7 +20,7 @@ loop-j-preserved c =
     let fs = drop 1 c.args.row.now in
     let lt : c.loop-j.j < length fs = omega (arith, length-drop 1 c.args.row.now) in
     let x : c.field.result.now ≡ get_or fs c.loop-j.j [] = c.field.ensures ∙ field-after c.args.row.now 1 c.loop-j.j [] in
-    (among-next check_agent_name fs c.loop-j.j [] lt inv.0 (rw (x, inv.1) at c.in_default.ensures.0), c.in_default.ensures.1 ∙ rw (x, inv.1) (sym (take_more fs c.loop-j.j [] lt)))
+    (among-next check_agent_name fs c.loop-j.j [] lt inv.0 (rw (x, inv.1) at c.in_ok-take_agent_name.ensures.0), c.in_ok-take_agent_name.ensures.1 ∙ rw (x, inv.1) (sym (take_more fs c.loop-j.j [] lt)))
 
 pub returns : goal.returns
 returns c =

@@ -5,7 +5,7 @@ use Rattle.std.proofs.lemmas.Slice.Zip.{AllZip-long}
 use Rattle.table_text.specs.Rows.{rows_text}
 use Rattle.lottery_file.specs.Lotteries.{lists_value}
 use Rattle.lottery_file.specs.Written.{AreListed, worth_rows}
-use Rattle.lottery_file.proofs.Buffering.{puts_as, puts_next, puts_stop}
+use Rattle.lottery_file.proofs.Buffering.{puts_as, puts_next, puts_stop, puts_refused}
 use Rattle.lottery_file.proofs.WrittenRows.{zip_at, place_text_as, worth_text_next, worth_text_stop, worth_text_all}
 use Rattle.lottery_file.proofs.head.put_worths.Goals as goal
 
@@ -38,8 +38,8 @@ put_places-requires g c =
     let w : c.deref-in-loop-i.result.now ≡ get_or (worths_value c.args.worths.now) i [] = c.deref-in-loop-i.ensures.value ∙ worths_at c.args.worths.now i c.index-worths-i.result (omega (arith, many.1)) c.index-worths-i.is in
     ap length w ∙ zip_at (lists_value c.args.lists.now) (worths_value c.args.worths.now) i c.requires.places (omega (arith, c.requires.many)) ∙ sym (ap length l)
 
-pub returns-in-Err : goal.returns-in-Err
-returns-in-Err g c =
+pub returns-in_err-put_places : goal.returns-in_err-put_places
+returns-in_err-put_places g c =
     let i = c.loop-i.i in
     let agents = c.args.agents.now in
     let columns = c.args.columns.now in
@@ -50,8 +50,9 @@ returns-in-Err g c =
     let l : c.deref.result.now ≡ get_or lists i [] = c.deref.ensures.value ∙ list_at c.args.lists.now i c.index-lists-i.result (omega (arith, many.0)) c.index-lists-i.is in
     let w : c.deref-in-loop-i.result.now ≡ get_or worths i [] = c.deref-in-loop-i.ensures.value ∙ worths_at c.args.worths.now i c.index-worths-i.result (omega (arith, many.1)) c.index-worths-i.is in
     let same = place_text_as columns c.name_at.result.now (get_or agents i []) c.deref.result.now (get_or lists i []) c.deref-in-loop-i.result.now (get_or worths i []) c.name_at.ensures l w in
-    puts_as (worth_text_stop agents columns lists worths i (omega arith) (omega (arith, c.requires.many)) (omega (arith, many.1, long)))
-    (puts_stop (rows_text (worth_rows (drop (i + 1) agents) columns (drop (i + 1) lists) (drop (i + 1) worths))) (puts_next {t = rows_text (worth_rows (take i agents) columns (take i lists) (take i worths))} c.loop-i.invariant (puts_as same c.in-Err.ensures)))
+    puts_refused c.from_residual.result c.from_residual.ensures.1
+    (puts_as (worth_text_stop agents columns lists worths i (omega arith) (omega (arith, c.requires.many)) (omega (arith, many.1, long)))
+    (puts_stop (rows_text (worth_rows (drop (i + 1) agents) columns (drop (i + 1) lists) (drop (i + 1) worths))) (puts_next {t = rows_text (worth_rows (take i agents) columns (take i lists) (take i worths))} c.loop-i.invariant (puts_as same c.in_err-put_places.ensures))))
 
 pub loop-i-preserved : goal.loop-i-preserved
 loop-i-preserved g c =
@@ -65,7 +66,7 @@ loop-i-preserved g c =
     let l : c.deref.result.now ≡ get_or lists i [] = c.deref.ensures.value ∙ list_at c.args.lists.now i c.index-lists-i.result (omega (arith, many.0)) c.index-lists-i.is in
     let w : c.deref-in-loop-i.result.now ≡ get_or worths i [] = c.deref-in-loop-i.ensures.value ∙ worths_at c.args.worths.now i c.index-worths-i.result (omega (arith, many.1)) c.index-worths-i.is in
     let same = place_text_as columns c.name_at.result.now (get_or agents i []) c.deref.result.now (get_or lists i []) c.deref-in-loop-i.result.now (get_or worths i []) c.name_at.ensures l w in
-    puts_as (worth_text_next agents columns lists worths i (omega arith) (omega (arith, c.requires.many)) (omega (arith, many.1, long))) (puts_next {t = rows_text (worth_rows (take i agents) columns (take i lists) (take i worths))} c.loop-i.invariant (puts_as same c.in_default.ensures))
+    puts_as (worth_text_next agents columns lists worths i (omega arith) (omega (arith, c.requires.many)) (omega (arith, many.1, long))) (puts_next {t = rows_text (worth_rows (take i agents) columns (take i lists) (take i worths))} c.loop-i.invariant (puts_as same c.in_ok-put_places.ensures))
 
 pub returns : goal.returns
 returns g c =

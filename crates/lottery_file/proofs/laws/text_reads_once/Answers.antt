@@ -1,4 +1,5 @@
 use Rattle.lottery_file.proofs.ReadOnce.{one-value, one-fault, not-both}
+use Rattle.lottery_file.proofs.SaidOnce.{one-of-two}
 use Rattle.lottery_file.proofs.laws.text_reads_once.Goals as goal
 
 pub returns-clause-value : goal.returns-clause-value
@@ -9,3 +10,6 @@ returns-clause-fault c = one-fault
 
 pub returns-clause-either : goal.returns-clause-either
 returns-clause-either c = not-both
+
+pub returns-clause-always : goal.returns-clause-always
+returns-clause-always c = one-of-two

@@ -1,4 +1,4 @@
-use Rattle.std.proofs.Common.{◌≡◌, ◌∙◌, ◌<◌, ◌≤◌, ◌+◌, sym, refl, arith, length, [], take}
+use Rattle.std.proofs.Common.{◌∙◌, ◌<◌, ◌≤◌, sym, refl, arith, length, [], take}
 use Rattle.std.proofs.lemmas.List.{take_all, take_more}
 use Rattle.lottery_file.specs.Said.{said_from, nothing}
 use Rattle.lottery_file.specs.Checks.{check_record, check_end}
@@ -44,5 +44,4 @@ returns c =
     let le : length c.args.rows.now ≤ c.loop-i.i = omega (arith, c.len-i-end.ensures) in
     let all = rw (take_all c.loop-i.i c.args.rows.now le) at inv.1 in
     let cut = not-ended (held c.loop-i.state) c.args.rows.now all (sym c.is_ended.ensures ∙ c.if-is_ended.false) in
-    let n : c.in-Some.record_no ≡ length c.args.rows.now + 1 = rw c.len.ensures at c.in-Some.ensures.1 in
-    inv.0 ∙ fault-at-end check_record check_end c.args.rows.now c.loop-i.i c.in-Some.record_no _ le n cut
+    inv.0 ∙ fault-at-end check_record check_end c.args.rows.now c.loop-i.i c.next_number.result _ le c.next_number.ensures cut

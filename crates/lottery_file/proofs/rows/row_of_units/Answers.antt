@@ -8,4 +8,4 @@ loop-object-preserved c =
     let j = c.loop-object.object in
     let lt : j < x.columns = omega arith in
     let is : c.at.result ≡ get_or x.units (c.args.agent * x.columns + j) 0 = c.at.ensures.value ∙ rw (lt-ltb j x.columns lt) refl in
-    entries_next _ _ x.units x.agents x.columns c.args.agent j c.at.result c.loop-object.row _ c.at.ensures.lawful.shape c.requires lt is c.loop-object.invariant c.in_ok-push_number.ensures
+    entries_next _ _ x.units x.agents x.columns c.args.agent j c.at.result c.loop-object.row _ c.at.ensures.lawful.shape c.requires lt is c.loop-object.invariant c.in_ok-push_number.ensures.ok

@@ -1,5 +1,4 @@
-use Rattle.std.proofs.Common.{◌∙◌, ◌≡◌, ◌-◌, sym, ap, arith, map, false}
-use Rattle.std.specs.Result.{is_ok}
+use Rattle.std.proofs.Common.{◌∙◌, ◌-◌, sym, ap, arith, map}
 use Rattle.definitions.specs.Values.{piece_value}
 use Rattle.lottery_file.specs.Checks.{weight_sum}
 use Rattle.lottery_file.proofs.PieceFacts.{give-last, keep-last, weight-last}
@@ -7,15 +6,14 @@ use Rattle.lottery_file.proofs.totals.PieceList.give.Goals as goal
 
 pub invariant_of-self : goal.invariant_of-self
 invariant_of-self c =
-    let bad : is_ok c.push.result ≡ false = c.if-is_err.ensures.negation in
-    c.self.invariant ∙ sym (ap weight_sum (keep-last c.self.inside.list.items (c.len-n.result - 1) c.index_mut-piece.result.now c.push.new.self c.index_mut-piece.ensures.value (rw bad at c.push.ensures.items)))
+    c.self.invariant ∙ sym (ap weight_sum (keep-last c.self.inside.list.items (c.len-n.result - 1) c.index_mut-piece.result.now c.push.new.self c.index_mut-piece.ensures.value c.in_err-push.ensures.items))
 
 pub invariant_of-self-2 : goal.invariant_of-self-2
 invariant_of-self-2 c =
-    let good = rw c.if-is_err.ensures.negation at c.push.ensures.items in
+    let good = c.in_ok-push.ensures.items in
     c.self.invariant ∙ sym (ap weight_sum (give-last c.self.inside.list.items (c.len-n.result - 1) c.index_mut-piece.result.now c.push.new.self c.args.give (omega arith) c.index_mut-piece.ensures.value good) ∙ weight-last c.args.give (map piece_value c.self.inside.list.items))
 
 pub returns : goal.returns
 returns c =
-    let good = rw c.if-is_err.ensures.negation at c.push.ensures.items in
+    let good = c.in_ok-push.ensures.items in
     rw (← c.self.view_is) (give-last c.self.inside.list.items (c.len-n.result - 1) c.index_mut-piece.result.now c.push.new.self c.args.give (omega arith) c.index_mut-piece.ensures.value good)

@@ -15,8 +15,8 @@ use Rattle.definitions.proofs.Members.{name_test, member_at}
 use Rattle.alloc_input.specs.Objects.{each_once, declared, declared_name}
 use Rattle.alloc_input.specs.Stated.{Setting, Stated, word_of, add_object, add_row, add_demand, add_group, add_bundle, add_set, add_cells, add_kind, add_record, stated_from, stated_by, setting_of, nothing}
 use Rattle.alloc_input.specs.Problems.{LawfulQuotasSuit}
-use Rattle.alloc_input.specs.declared.words.Word.{Word}
-use Rattle.alloc_input.specs.declared.words.Word.TheVariants as word
+use Rattle.alloc_input.specs.declared.quotas.words.Word.{Word}
+use Rattle.alloc_input.specs.declared.quotas.words.Word.TheVariants as word
 use Rattle.alloc_input.proofs.KnownNames.{is_some-name_index}
 use Rattle.alloc_input.proofs.OnceEach.{has-each_once}
 use Rattle.alloc_input.proofs.StatedChecks.{some-value}
@@ -52,7 +52,7 @@ each_once-distinct [] = tt
 each_once-distinct (y ∷ names) = (apart-filter y (each_once names), distinct-filter (λ z. not (bytes_eq y z)) (each_once names) (each_once-distinct names))
 
 -- among distinct names each stands at its own place
-place-of : (names : List (List ℕ)) (a : ℕ) → IsDistinct bytes_eq names → a < length names → name_index names (get_or names a []) ≡ Some a
+pub place-of : (names : List (List ℕ)) (a : ℕ) → IsDistinct bytes_eq names → a < length names → name_index names (get_or names a []) ≡ Some a
 place-of names a d l =
     let name = get_or names a [] in
     let there : is_some (name_index names name) ≡ true = is_some-name_index names name ∙ member_at bytes_eq name_test names a [] l in

@@ -14,8 +14,8 @@ use Rattle.alloc_input.specs.Stated.{with_rectangle_in, empty_set, grown_at}
 use Rattle.alloc_input.specs.Quotas.{check_limits}
 use Rattle.alloc_input.specs.Reading.{set_value, values, IsOpen, IsCounted}
 use Rattle.alloc_input.specs.declared.faults.InputKind.TheVariants as kind
-use Rattle.alloc_input.specs.declared.marks.Marks.{Marks}
-use Rattle.alloc_input.specs.declared.open_sets.OpenSet.{OpenSet}
+use Rattle.alloc_input.specs.declared.quotas.marks.Marks.{Marks}
+use Rattle.alloc_input.specs.declared.quotas.open_sets.OpenSet.{OpenSet}
 use Rattle.alloc_input.proofs.CellFacts.{count_is}
 
 -- the limits of few sets are those of their cells

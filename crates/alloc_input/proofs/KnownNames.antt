@@ -25,6 +25,15 @@ pub is_some-name_index : (names : List (List ℕ)) (name : List ℕ) → is_some
 is_some-name_index names name =
     some-if (ltb (position_or_len (bytes_eq name) names) (length names)) (position_or_len (bytes_eq name) names) ∙ any-by-place (bytes_eq name) names
 
+-- a name without a place isn't among the names
+pub absent-name : (names : List (List ℕ)) (name : List ℕ) (place : Option ℕ) → place ≡ name_index names name → false ≡ is_some place → has_name names name ≡ false
+absent-name names name place f t = sym (is_some-name_index names name) ∙ ap is_some (sym f) ∙ sym t
+
+-- nothing is there
+pub none-there : (o : Option ℕ) → is_some o ≡ false → o ≡ None
+none-there None e = refl
+none-there (Some n) e = cc e
+
 pub known-name : (names : List (List ℕ)) (name : List ℕ) (o : Option (List ℕ)) (place : Option ℕ) → Some name ≡ o → place ≡ name_index names name → true ≡ is_some place
     → names ≡ with_name names o
 known-name names name o place e f t =
@@ -34,5 +43,5 @@ known-name names name o place e f t =
 pub new-name : (names : List (List ℕ)) (name : List ℕ) (o : Option (List ℕ)) (place : Option ℕ) → Some name ≡ o → place ≡ name_index names name → false ≡ is_some place
     → names ++ name ∷ [] ≡ with_name names o
 new-name names name o place e f t =
-    let has : has_name names name ≡ false = sym (is_some-name_index names name) ∙ ap is_some (sym f) ∙ sym t in
+    let has : has_name names name ≡ false = absent-name names name place f t in
     rw (← e, has) refl

@@ -27,7 +27,7 @@ any-turned : (k : ℕ) (columns : List ℕ) → list_any (nat_eq k) columns ≡ 
 any-turned k [] = refl
 any-turned k (j ∷ columns) = rw (nat_eq_equiv.symm k j, any-turned k columns) refl
 
-column-passed : (o : Option ℕ) (columns : List ℕ) → check_column o columns ≡ None → (k : ℕ) × (o ≡ Some k) × (list_any (λ j. j == k) columns ≡ false)
+pub column-passed : (o : Option ℕ) (columns : List ℕ) → check_column o columns ≡ None → (k : ℕ) × (o ≡ Some k) × (list_any (λ j. j == k) columns ≡ false)
 column-passed None columns e = absurd (cc)
 column-passed (Some k) columns e = elim (cases_Bool (list_any (λ j. j == k) columns)) [
   | inl on ↦ absurd (cc (rw on at e))

@@ -24,10 +24,10 @@ use Rattle.alloc_input.proofs.MatrixSuits.{other-name}
 -- ---- the header
 
 -- objects within the limits, none of them `none`
-record AreHeadings (names : List (List ℕ)) : Type 0 where
-  limit : length names ≤ 200
-  lawful : All (λ name. is_name name ≡ true) names
-  apart : has_name names null_name ≡ false
+pub record AreHeadings (names : List (List ℕ)) : Type 0 where
+  pub limit : length names ≤ 200
+  pub lawful : All (λ name. is_name name ≡ true) names
+  pub apart : has_name names null_name ≡ false
 
 no-headings : AreHeadings []
 no-headings = record { limit = omega arith; lawful = All-nil (λ name. is_name name ≡ true); apart = refl }
@@ -111,13 +111,13 @@ unfolding filled_rows
 no-records = record { objects = no-headings; limit = omega arith; agents = All-nil (λ name. is_name name ≡ true) }
 
 -- the names of a lawful matrix: 1 to 1,000 agents, and at most 200 objects besides `none`
-record AreMatrixNames (agents objects : List (List ℕ)) : Type 0 where
-  headings : AreHeadings objects
-  some : 1 ≤ length agents
-  limit : length agents ≤ 1000
-  lawful : All (λ name. is_name name ≡ true) agents
+pub record AreMatrixNames (agents objects : List (List ℕ)) : Type 0 where
+  pub headings : AreHeadings objects
+  pub some : 1 ≤ length agents
+  pub limit : length agents ≤ 1000
+  pub lawful : All (λ name. is_name name ≡ true) agents
 
-matrix-lawful : (rows : List Row) → matrix_fault rows ≡ None → AreMatrixNames (agents_of rows) (objects_of rows)
+pub matrix-lawful : (rows : List Row) → matrix_fault rows ≡ None → AreMatrixNames (agents_of rows) (objects_of rows)
 matrix-lawful rows e =
     let h = fault-keeps check_matrix check_end (λ rows. AreNamed (filled_rows rows)) record-named [] rows e no-records in
     let some = some-agents rows (fault-ends check_matrix check_end [] rows e) in

@@ -9,7 +9,7 @@ use Rattle.alloc_input.specs.Cells.{with_rectangle}
 use Rattle.alloc_input.specs.Checks.{Checks, need}
 use Rattle.alloc_input.specs.Marked.{AreRows, IsGrown, row_of, cells_in_rows, marked_cells}
 use Rattle.alloc_input.specs.Numbers.{AreNumbersBelow}
-use Rattle.alloc_input.specs.declared.marks.Marks.{Marks}
+use Rattle.alloc_input.specs.declared.quotas.marks.Marks.{Marks}
 use Rattle.alloc_input.specs.declared.faults.InputKind.{InputKind}
 use Rattle.alloc_input.specs.declared.faults.InputKind.TheVariants as kind
 use Rattle.alloc_input.specs.declared.faults.Stop.{Stop}

@@ -1,8 +1,7 @@
 -- Numbers in rising order, each once, and one more number.
 use Rattle.std.proofs.Common.{◌≡◌, ◌≢◌, ◌∙◌, ◌+◌, ◌<◌, ◌≤◌, ◌∷◌, ◌||◌, ◌&&◌, [], ℕ, suc, zero, List, Bool, true, false, length, Option, Some, None, refl, sym, ap, filter, get_or, take, inl, inr, arith}
 use Rattle.std.proofs.Math.Bool.{or-false}
-use Rattle.std.specs.Prelude.{◌==◌, nat_lt, Result, Ok, Err, OnOk, IfOk, IfSome, IsSomeAnd}
-use Rattle.std.specs.Result.{is_err}
+use Rattle.std.specs.Prelude.{◌==◌, nat_lt, Result, Ok, Err, IfOk, IfSome, IsSomeAnd}
 use Rattle.std.specs.List.{AllByRecursion, range_with_len}
 use Rattle.std.specs.List.Sorted.{IsStrictlySortedBy}
 use Rattle.std.specs.Ordering.{nat_cmp}
@@ -196,10 +195,6 @@ distinct-added n numbers new a r =
 -- one more number of some
 pub adds_more : (n k j : ℕ) (xs : List ℕ) (a b : Bool) → b ≡ (a || (nat_lt j n && has_number (k ∷ []) j)) → b ≡ (a || (nat_lt j n && (k == j)))
 adds_more n k j xs a b e = e ∙ ap (λ c. a || (nat_lt j n && c)) (or-false (k == j))
-
-pub on_ok : {X E : Type 0} (P : Type 0) (r : Result X E) → is_err r ≡ false → OnOk r P → P
-on_ok P (Ok x) e h = h
-on_ok P (Err x) e h = cc e
 
 pub if_ok : {X E : Type 0} (r : Result X E) (P Q : X → Type 0) → ((x : X) → P x → Q x) → IfOk r P → IfOk r Q
 if_ok (Ok x) P Q f h = f x h

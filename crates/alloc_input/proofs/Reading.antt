@@ -3,8 +3,8 @@ use Rattle.std.proofs.Common.{◌≡◌, ◌∙◌, ◌+◌, ◌<◌, ◌≤◌,
 use Rattle.std.specs.Prelude.{nat_le}
 use Rattle.std.proofs.lemmas.Bool.{and_parts, leb-true}
 use Rattle.alloc_input.specs.Quotas.{fields_fit}
-use Rattle.alloc_input.specs.declared.words.Word.{Word}
-use Rattle.alloc_input.specs.declared.words.Word.TheVariants as word
+use Rattle.alloc_input.specs.declared.quotas.words.Word.{Word}
+use Rattle.alloc_input.specs.declared.quotas.words.Word.TheVariants as word
 use Rattle.std.proofs.lemmas.List.{take_more}
 use Rattle.definitions.specs.Texts.{Row}
 use Rattle.alloc_input.specs.Stated.{Setting, Stated, add_record, stated_from, nothing}

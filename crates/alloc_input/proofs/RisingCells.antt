@@ -10,8 +10,8 @@ use Rattle.definitions.specs.Sets.{SetValue, IsQuotaSet, IsInRange, IsCellWithin
 use Rattle.definitions.proofs.Members.{cell_test, member_at}
 use Rattle.alloc_input.specs.Marked.{cells_in_rows, marked_cells}
 use Rattle.alloc_input.specs.Reading.{set_value, values, IsOpen, AreQuotas}
-use Rattle.alloc_input.specs.declared.marks.Marks.{Marks}
-use Rattle.alloc_input.specs.declared.open_sets.OpenSet.{OpenSet}
+use Rattle.alloc_input.specs.declared.quotas.marks.Marks.{Marks}
+use Rattle.alloc_input.specs.declared.quotas.open_sets.OpenSet.{OpenSet}
 use Rattle.definitions.specs.Sets.{same_cell}
 use Rattle.definitions.proofs.Cells.{member_is_within}
 use Rattle.alloc_input.proofs.CellFacts.{in_rows_test}

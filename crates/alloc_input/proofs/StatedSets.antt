@@ -21,8 +21,8 @@ use Rattle.alloc_input.specs.Stated.{Setting, Stated, word_of, floor_at, ceiling
 use Rattle.alloc_input.specs.Quotas.{check_object, check_row, check_demand, check_set, check_in, check_kind, check_word, check_next, check_record, fields_fit, quotas_fault}
 use Rattle.alloc_input.specs.declared.faults.InputKind.{InputKind}
 use Rattle.alloc_input.specs.declared.faults.InputKind.TheVariants as kind
-use Rattle.alloc_input.specs.declared.words.Word.{Word}
-use Rattle.alloc_input.specs.declared.words.Word.TheVariants as word
+use Rattle.alloc_input.specs.declared.quotas.words.Word.{Word}
+use Rattle.alloc_input.specs.declared.quotas.words.Word.TheVariants as word
 use Rattle.alloc_input.proofs.Reading.{stated_more}
 use Rattle.alloc_input.proofs.Rectangles.{rectangle-within, rectangle-keeps, column-added}
 use Rattle.alloc_input.proofs.StatedChecks.{limits-passed, object-passed, demand-passed, set-passed, in-passed}

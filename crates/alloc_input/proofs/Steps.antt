@@ -1,8 +1,7 @@
 -- A check after others, and what a record adds.
-use Rattle.std.proofs.Common.{◌≡◌, ◌∙◌, ◌++◌, ◌∷◌, [], ℕ, List, Option, Some, None, Result, Ok, Err, length, refl, sym, false}
+use Rattle.std.proofs.Common.{◌≡◌, ◌∙◌, ◌++◌, ◌∷◌, [], ℕ, List, Option, Some, None, Result, Ok, Err, length, refl, sym}
 use Rattle.std.specs.Option.{option_or}
 use Rattle.std.specs.Prelude.{sum, slice_set, nat_le}
-use Rattle.std.specs.Result.{is_err}
 use Rattle.definitions.specs.Sets.{SetValue}
 use Rattle.definitions.specs.Texts.{Row, field, name_index}
 use Rattle.alloc_input.specs.Cells.{numbers_to}
@@ -13,15 +12,14 @@ use Rattle.alloc_input.specs.declared.faults.InputKind.{InputKind}
 use Rattle.alloc_input.specs.declared.faults.InputKind.TheVariants as kind
 use Rattle.alloc_input.specs.declared.faults.Stop.{Stop}
 
--- what holds where a call that only wants memory succeeds
-pub added : {X : Type 0} (P : Type 0) (r : Result X Stop) (a : Option InputKind) → is_err r ≡ false → Checks r a (λ _. P) → P
-added P (Ok x) a e h = h.1
-added P (Err s) a e h = cc e
-
 -- a check that follows one which passed
 pub then_checks : {X : Type 0} (r : Result X Stop) (a b b2 : Option InputKind) (P Q : X → Type 0) → a ≡ None → b ≡ b2 → ((x : X) → P x → Q x) → Checks r b P → Checks r (option_or a b2) Q
 then_checks (Ok x) a b b2 P Q e g f h = (rw e (sym g ∙ h.0), f x h.1)
 then_checks (Err s) a b b2 P Q e g f h = rw (e, ← g) h
+
+-- what one that follows finds, where the first passes
+pub follows : (a b b2 o : Option InputKind) → a ≡ None → b ≡ b2 → b ≡ o → option_or a b2 ≡ o
+follows a b b2 o e g h = rw (e, ← g) h
 
 module _ (g : Setting) (st : Stated) (row : Row) (k f c m n : ℕ) (ys : List ℕ) (cols : List (List ℕ)) (sets : List SetValue)
     (a : name_index g.objects (field row 1) ≡ Some k) (b : f ≡ floor_at row 2) (d : c ≡ ceiling_at row 3)

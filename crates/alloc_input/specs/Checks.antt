@@ -1,5 +1,6 @@
 -- Checks in order, and what the parts of a reader answer to them.
 use Rattle.std.specs.Prelude.{◌≡◌, ℕ, Bool, List, [], ◌∷◌, Option, Some, None, Result, MatchResult, if◌then◌else◌}
+use Rattle.alloc_input.specs.declared.faults.InputFault.{InputFault}
 use Rattle.alloc_input.specs.declared.faults.InputKind.{InputKind}
 use Rattle.alloc_input.specs.declared.faults.InputRefusal.{InputRefusal}
 use Rattle.alloc_input.specs.declared.faults.InputRefusal.TheVariants as refusal
@@ -25,10 +26,18 @@ StopsAt stop.NoMemory check = Unit {0}
 abbrev pub Checks : {X : Type 0} → Result X Stop → Option InputKind → (X → Type 0) → Type 0
 Checks r check P = MatchResult r (λ x. (check ≡ None) × P x) (λ e. StopsAt e check)
 
+-- a check passes and leaves what P says, or the kind that comes first is found; no memory is wanted
+abbrev pub Finds : {X : Type 0} → Result X InputKind → Option InputKind → (X → Type 0) → Type 0
+Finds r check P = MatchResult r (λ x. (check ≡ None) × P x) (λ kind. check ≡ Some kind)
+
 -- a stop at record n of a file is told
 abbrev pub IsRefusalFor : Stop → ℕ → ℕ → InputRefusal → Type 0
 IsRefusalFor (stop.Unlawful k) file n r = r ≡ refusal.Fault (record { file = file; record_no = n; kind = k })
 IsRefusalFor stop.NoMemory file n r = r ≡ refusal.NoMemory
+
+-- the fault of a file
+abbrev pub IsFaultOf : ℕ → Option (ℕ × InputKind) → InputFault → Type 0
+IsFaultOf file fault f = (f.file ≡ file) × (fault ≡ Some (f.record_no, f.kind))
 
 -- what a refusal says of the fault of a file
 abbrev pub Tells : ℕ → InputRefusal → Option (ℕ × InputKind) → Type 0

@@ -6,9 +6,14 @@ pub mod Matrices
 pub mod MatrixReading
 pub mod Numbers
 pub mod Objects
+pub mod Once
 pub mod Prefs
 pub mod PrefsReading
 pub mod Problems
+pub mod QuotaRecords
 pub mod Quotas
 pub mod Reading
+pub mod SaidMatrices
+pub mod SaidPreferences
+pub mod SaidQuotas
 pub mod Stated

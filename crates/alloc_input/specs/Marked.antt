@@ -5,7 +5,7 @@ use Rattle.definitions.specs.declared.Cell.{Cell}
 use Rattle.definitions.specs.Sets.{all_cells}
 use Rattle.alloc_input.specs.Cells.{has_number}
 use Rattle.alloc_input.specs.Numbers.{AreNumbersBelow}
-use Rattle.alloc_input.specs.declared.marks.Marks.{Marks}
+use Rattle.alloc_input.specs.declared.quotas.marks.Marks.{Marks}
 
 -- the columns of an agent's row
 abbrev pub row_of : List (List ℕ) → ℕ → List ℕ

@@ -1,13 +1,13 @@
 -- What the parts of the reader of a matrix answer.
-use Rattle.std.specs.Prelude.{◌≡◌, ◌≤◌, ◌*◌, ◌++◌, ◌∷◌, [], List, All, Result, MatchResult}
+use Rattle.std.specs.Prelude.{◌≡◌, ◌≤◌, ◌<◌, ◌+◌, ◌*◌, ◌++◌, ◌∷◌, [], ℕ, List, None, All, Result, MatchResult}
 use Rattle.std.specs.List.{AllZip}
-use Rattle.definitions.specs.Texts.{Row}
+use Rattle.definitions.specs.Texts.{Row, field}
 use Rattle.definitions.specs.Values.{Ratio, SharesValue}
 use Rattle.frac128.specs.Fraction.{numerator, denominator}
 use Rattle.frac128.specs.declared.fractions.Fraction.{Fraction}
 use Rattle.scaled_matrix.specs.Entries.{ratios_of}
 use Rattle.alloc_input.specs.Checks.{Checks, Tells}
-use Rattle.alloc_input.specs.Matrices.{IsSameShare, ReadsAsMatrix, all_shares, check_matrix, matrix_fault, objects_of}
+use Rattle.alloc_input.specs.Matrices.{IsSameShare, ReadsAsMatrix, all_shares, check_entry, check_matrix, matrix_fault, objects_of}
 use Rattle.alloc_input.specs.Prefs.{agents_of, has_header}
 use Rattle.alloc_input.specs.declared.faults.InputRefusal.{InputRefusal}
 use Rattle.alloc_input.specs.declared.faults.Stop.{Stop}
@@ -24,6 +24,10 @@ AreShares entries shares = AllZip IsSameShare (ratios_of entries) shares
 -- some entries and these shares besides
 abbrev pub AddsShares : List Fraction → List Fraction → List Ratio → Type 0
 AddsShares old new shares = (given : List Ratio) → AreShares old given → AreShares new (given ++ shares)
+
+-- memory is wanted for an entry that passes
+abbrev pub WantsForEntry : ℕ → Row → Type 0
+WantsForEntry columns row = (k : ℕ) × (k < columns) × (check_entry (field row (k + 1)) ≡ None)
 
 -- the state after these records
 pub record IsMatrixAfter (rows : List Row) (s : State) : Type 0 where

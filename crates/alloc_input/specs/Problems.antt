@@ -15,7 +15,7 @@ use Rattle.alloc_input.specs.Stated.{Setting, Stated, setting_of, stated_by}
 use Rattle.alloc_input.specs.declared.faults.InputKind.{InputKind}
 use Rattle.alloc_input.specs.declared.faults.InputRefusal.{InputRefusal}
 use Rattle.alloc_input.specs.declared.faults.InputRefusal.TheVariants as refusal
-use Rattle.alloc_input.specs.declared.stated.SolveQuotas.{SolveQuotas}
+use Rattle.alloc_input.specs.declared.quotas.solve.SolveQuotas.{SolveQuotas}
 
 -- what the quotas of a problem speak of: the agents of the preferences, and the objects that the quotas declare
 abbrev pub solve_setting : List Row → List Row → Setting

@@ -16,8 +16,8 @@ use Rattle.alloc_input.specs.declared.faults.InputRefusal.{InputRefusal}
 use Rattle.alloc_input.specs.declared.faults.InputRefusal.TheVariants as refusal
 use Rattle.alloc_input.specs.declared.mode.Mode.{Mode}
 use Rattle.alloc_input.specs.declared.mode.Mode.TheVariants as mode
-use Rattle.alloc_input.specs.declared.words.Word.{Word}
-use Rattle.alloc_input.specs.declared.words.Word.TheVariants as word
+use Rattle.alloc_input.specs.declared.quotas.words.Word.{Word}
+use Rattle.alloc_input.specs.declared.quotas.words.Word.TheVariants as word
 
 -- ---- quotas and limits
 

@@ -9,8 +9,8 @@ use Rattle.alloc_input.specs.Stated.{Setting, Stated, stated_by}
 use Rattle.alloc_input.specs.Quotas.{quotas_fault}
 use Rattle.alloc_input.specs.Marked.{marked_cells, IsMarked}
 use Rattle.alloc_input.specs.declared.faults.InputRefusal.{InputRefusal}
-use Rattle.alloc_input.specs.declared.open_sets.OpenSet.{OpenSet}
-use Rattle.alloc_input.specs.declared.quota_state.State.{State}
+use Rattle.alloc_input.specs.declared.quotas.open_sets.OpenSet.{OpenSet}
+use Rattle.alloc_input.specs.declared.quotas.state.State.{State}
 
 -- an open set, as the definitions of quotas see it
 abbrev pub set_value : OpenSet → SetValue

@@ -7,8 +7,8 @@ use Rattle.definitions.specs.Texts.{Row, field, count_of, name_index}
 use Rattle.alloc_input.specs.Cells.{numbers_to, distinct_below, with_rectangle}
 use Rattle.alloc_input.specs.declared.mode.Mode.{Mode}
 use Rattle.alloc_input.specs.declared.mode.Mode.TheVariants as mode
-use Rattle.alloc_input.specs.declared.words.Word.{Word}
-use Rattle.alloc_input.specs.declared.words.Word.TheVariants as word
+use Rattle.alloc_input.specs.declared.quotas.words.Word.{Word}
+use Rattle.alloc_input.specs.declared.quotas.words.Word.TheVariants as word
 
 -- what the text speaks of: agents, objects without `none`, and whether it is read for `solve`
 pub record Setting : Type 0 where

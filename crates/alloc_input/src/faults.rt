@@ -1,6 +1,13 @@
+//! The faults of records and refusals of texts, and what stops the reading of a record. Nothing here knows what a
+//! record says.
+
 ghost use Rattle.std.specs.Prelude.{◌≡◌};
 ghost use Rattle.alloc_input.specs.Kinds.{kind_number};
 ghost use Rattle.alloc_input.specs.Checks.{IsRefusalFor};
+
+use quota_sets::ProblemFault;
+use std::alloc::{AllocError, AllocFailed};
+use table_text::NoMemory;
 
 /// What is wrong with a record of preferences, quotas or a matrix: the first of its checks that fails.
 #[derive(Clone, Copy, Debug, PartialEq, Eq)]
@@ -94,14 +101,93 @@ pub enum InputRefusal {
     NoMemory,
 }
 
-/// Why a record isn't taken.
+impl From<InputFault> for InputRefusal {
+    ghost use Rattle.std.specs.Prelude.{◌≡◌};
+    ghost use Rattle.alloc_input.specs.declared.faults.InputRefusal.TheVariants.{Fault};
+
+    ghost from_gives = { λ fault e. e ≡ Fault fault };
+
+    fn from(fault: InputFault) -> InputRefusal {
+        InputRefusal::Fault(fault)
+    }
+}
+
+impl From<AllocError> for InputRefusal {
+    ghost use Rattle.std.specs.Prelude.{◌≡◌};
+    ghost use Rattle.alloc_input.specs.declared.faults.InputRefusal.TheVariants.{NoMemory};
+
+    ghost from_gives = { λ _ e. e ≡ NoMemory };
+
+    fn from(_: AllocError) -> InputRefusal {
+        InputRefusal::NoMemory
+    }
+}
+
+impl From<NoMemory> for InputRefusal {
+    ghost use Rattle.std.specs.Prelude.{◌≡◌};
+    ghost use Rattle.alloc_input.specs.declared.faults.InputRefusal.TheVariants.{NoMemory};
+
+    ghost from_gives = { λ _ e. e ≡ NoMemory };
+
+    fn from(_: NoMemory) -> InputRefusal {
+        InputRefusal::NoMemory
+    }
+}
+
+impl From<ProblemFault> for InputRefusal {
+    ghost use Rattle.std.specs.Prelude.{◌≡◌};
+    ghost use Rattle.alloc_input.specs.declared.faults.InputRefusal.TheVariants.{NoMemory};
+
+    ghost from_gives = { λ _ e. e ≡ NoMemory };
+
+    fn from(_: ProblemFault) -> InputRefusal {
+        InputRefusal::NoMemory
+    }
+}
+
+/// Why a record isn't taken, where memory is wanted. What wants none answers an `InputKind` alone.
 #[derive(Clone, Copy, Debug)]
 pub(crate) enum Stop {
+    /// The record is unlawful.
     Unlawful(InputKind),
+    /// Memory is refused.
     NoMemory,
 }
 
-// The refusal of a file whose reading stops at this record.
+impl From<InputKind> for Stop {
+    ghost use Rattle.std.specs.Prelude.{◌≡◌};
+    ghost use Rattle.alloc_input.specs.declared.faults.Stop.TheVariants.{Unlawful};
+
+    ghost from_gives = { λ kind e. e ≡ Unlawful kind };
+
+    fn from(kind: InputKind) -> Stop {
+        Stop::Unlawful(kind)
+    }
+}
+
+impl From<AllocError> for Stop {
+    ghost use Rattle.std.specs.Prelude.{◌≡◌};
+    ghost use Rattle.alloc_input.specs.declared.faults.Stop.TheVariants.{NoMemory};
+
+    ghost from_gives = { λ _ e. e ≡ NoMemory };
+
+    fn from(_: AllocError) -> Stop {
+        Stop::NoMemory
+    }
+}
+
+impl<T: Drop> From<AllocFailed<T>> for Stop {
+    ghost use Rattle.std.specs.Prelude.{◌≡◌};
+    ghost use Rattle.alloc_input.specs.declared.faults.Stop.TheVariants.{NoMemory};
+
+    ghost from_gives = { λ _ e. e ≡ NoMemory };
+
+    fn from(_: AllocFailed<T>) -> Stop {
+        Stop::NoMemory
+    }
+}
+
+/// The refusal of a file whose reading stops at this record.
 pub(crate) fn refused(stop: Stop, file: u8, record_no: u64) -> InputRefusal
     ensures { IsRefusalFor stop file record_no result }
 {

@@ -1,3 +1,5 @@
+//! What quotas are read for.
+
 ghost use Rattle.std.specs.Prelude.{◌≡◌};
 ghost use Rattle.alloc_input.specs.Stated.{is_solve};
 

@@ -1,17 +1,22 @@
-ghost use Rattle.std.specs.Prelude.{◌≡◌, ◌==◌, ◌+◌, ◌<◌, ◌∷◌, ◌++◌, [], length, slice_index, IfOk, OnOk};
+//! The reader of preferences, the first file: agents, and for each the objects that it lists. It knows the objects
+//! that quotas declare, and no record of quotas.
+
+ghost use Rattle.std.specs.Prelude.{◌≡◌, ◌<◌, ◌∷◌, ◌++◌, [], length, IfOk, OnOk};
 ghost use Rattle.definitions.specs.Texts.{first_field};
-ghost use Rattle.alloc_input.specs.Prefs.{check_choices, check_agent, list_of};
+ghost use Rattle.alloc_input.specs.Prefs.{check_agent, list_of};
 ghost use Rattle.alloc_input.specs.Checks.{Checks};
-ghost use Rattle.alloc_input.specs.PrefsReading.{ArePreferences, AreStamps, ReadsPreferences, ShowList, TakesChoice, TakesRecord, column_lists};
+ghost use Rattle.alloc_input.specs.PrefsReading.{ArePreferences, AreStamps, ReadsPreferences, TakesRecord, column_lists};
+
+mod choices;
 
 use crate::ending::check_ending;
 use crate::faults::{InputKind, InputRefusal, Stop, refused};
-use crate::fields::{add_name, is_null, is_text};
-use crate::numbers::copies;
-use crate::words::is_word;
+use crate::fields::{add_name, need, need_new, read_name};
+use crate::limits::MOST_AGENTS;
+use crate::prefs::choices::read_choices;
 use quota_sets::Names;
 use std::alloc::Global;
-use table_text::{Row, Rows, lawful_name, name_of};
+use table_text::{Row, Rows, is_word};
 
 /// The agents, and for each the columns that it lists, with that of `none` last.
 #[derive(Debug, Drop)]
@@ -26,85 +31,6 @@ pub(crate) struct State {
     pub header: bool,
     pub agents: Names,
     pub lists: Vec<Vec<u32>>,
-}
-
-// Whether a column has this agent's stamp.
-fn is_stamped(stamps: &[u32], column: u32, agent: u32) -> bool
-    requires { column < length stamps.now }
-    ensures { result ≡ (slice_index stamps.now column == agent) }
-{
-    stamps[column as usize] == agent
-}
-
-// Takes one more field of an agent's list. The columns on the list have the agent's stamp.
-#[tactic(auto, unfolding(crate::specs::Prefs::check_choice))]
-fn take_choice(
-    field: &[u8],
-    objects: &Names,
-    agent: u32,
-    stamps: &mut [u32],
-    list: &mut Vec<u32>,
-    closed: &mut bool,
-) -> Result<(), Stop>
-    requires stamps { AreStamps (length objects.now) agent stamps.old }
-    requires shown { ShowList agent stamps.old list.old.items }
-    ensures taken { TakesChoice objects.now field.now list.old.items closed.old result list.new.items closed.new }
-    ensures stamps { OnOk result (AreStamps (length objects.now) agent stamps.new) }
-    ensures shown { OnOk result (ShowList agent stamps.new list.new.items) }
-{
-    if field.is_empty() {
-        return Ok(());
-    }
-    if *closed {
-        return Err(Stop::Unlawful(InputKind::NullNotLast));
-    }
-    if is_null(field) {
-        *closed = true;
-        return Ok(());
-    }
-    if !lawful_name(field) {
-        return Err(Stop::Unlawful(InputKind::BadName));
-    }
-    let Some(column) = objects.find_bytes(field) else {
-        return Err(Stop::Unlawful(InputKind::UnknownObject));
-    };
-    if is_stamped(stamps, column, agent) {
-        return Err(Stop::Unlawful(InputKind::RepeatedChoice));
-    }
-    if list.push(column).is_err() {
-        return Err(Stop::NoMemory);
-    }
-    stamps[column as usize] = agent;
-    Ok(())
-}
-
-// The columns of the list of an agent, after so many others.
-fn read_choices(
-    alloc: Global,
-    row: &Row,
-    objects: &Names,
-    others: u32,
-    stamps: &mut [u32],
-) -> Result<Vec<u32>, Stop>
-    requires some { 0 < length row.now }
-    requires few { others < 1000 }
-    requires stamps { AreStamps (length objects.now) others stamps.old }
-    ensures read { Checks result (check_choices objects.now row.now) (λ v. v.items ≡ list_of objects.now row.now) }
-    ensures stamps { OnOk result (AreStamps (length objects.now) (others + 1) stamps.new) }
-{
-    let agent = others + 1;
-    let mut list = Vec::new(alloc);
-    let mut closed = false;
-    for j in 0..row.len() - 1 {
-        let choice = row.field(j + 1);
-        if let Err(stop) = take_choice(choice, objects, agent, stamps, &mut list, &mut closed) {
-            return Err(stop);
-        }
-    }
-    if list.push(objects.len()).is_err() {
-        return Err(Stop::NoMemory);
-    }
-    Ok(list)
 }
 
 // Takes the record of one agent.
@@ -123,26 +49,13 @@ fn take_agent(
         (λ _. (agents.new ≡ agents.old ++ first_field row.now ∷ []) × (column_lists lists.new ≡ column_lists lists.old ++ list_of objects.now row.now ∷ [])) }
     ensures stamps { OnOk result (AreStamps (length objects.now) (length agents.new) stamps.new) }
 {
-    let Some(name) = name_of(row.field(0)) else {
-        return Err(Stop::Unlawful(InputKind::BadName));
-    };
-    if agents.find(name).is_some() {
-        return Err(Stop::Unlawful(InputKind::RepeatedAgent));
-    }
-    if agents.len() >= 1000 {
-        return Err(Stop::Unlawful(InputKind::OverLimit));
-    }
-    let others = agents.len();
-    let list = match read_choices(alloc, row, objects, others, stamps) {
-        Ok(list) => list,
-        Err(stop) => return Err(stop),
-    };
-    if let Err(stop) = add_name(alloc, name, agents) {
-        return Err(stop);
-    }
-    if lists.push(list).is_err() {
-        return Err(Stop::NoMemory);
-    }
+    let text = row.field(0);
+    let name = read_name(text)?;
+    need_new(agents, text, InputKind::RepeatedAgent)?;
+    need(agents.len() < MOST_AGENTS, InputKind::OverLimit)?;
+    let list = read_choices(alloc, row, objects, agents.len(), stamps)?;
+    add_name(agents, name)?;
+    lists.push(list)?;
     Ok(())
 }
 
@@ -162,9 +75,7 @@ fn take_record(
     if row.is_empty() {
         return Ok(());
     }
-    if !is_text(row) {
-        return Err(Stop::Unlawful(InputKind::NotUtf8));
-    }
+    need(row.is_text(), InputKind::NotUtf8)?;
     if state.header {
         return take_agent(
             alloc,
@@ -175,14 +86,12 @@ fn take_record(
             &mut state.lists,
         );
     }
-    if !is_word(row.field(0), b"agent") {
-        return Err(Stop::Unlawful(InputKind::NoHeader));
-    }
+    need(is_word(row.field(0), b"agent"), InputKind::NoHeader)?;
     state.header = true;
     Ok(())
 }
 
-// What the records of preferences state, over these declared objects.
+/// What the records of preferences state, over these declared objects.
 pub(crate) fn read_preferences(
     alloc: Global,
     rows: &Rows,
@@ -196,18 +105,14 @@ pub(crate) fn read_preferences(
         agents: Names::new(alloc),
         lists: Vec::new(alloc),
     };
-    let objects_count = objects.len();
-    let Ok(mut stamps) = copies(alloc, 0, objects_count) else {
-        return Err(InputRefusal::NoMemory);
-    };
+    let mut stamps = vec![in alloc; 0; objects.len() as usize]?;
     for i in 0..rows.len() {
+        // By hand, since the refusal says besides at which record.
         if let Err(stop) = take_record(alloc, rows.at(i), objects, &mut stamps, &mut state) {
             return Err(refused(stop, 1, i as u64 + 1));
         }
     }
-    if let Err(refusal) = check_ending(rows, state.header, &state.agents) {
-        return Err(refusal);
-    }
+    check_ending(rows, state.header, &state.agents)?;
     let State { agents, lists, .. } = state;
     Ok(Preferences { agents, lists })
 }

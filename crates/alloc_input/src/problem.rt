@@ -1,11 +1,13 @@
+//! The reader of a problem: preferences, the first file, over the objects that quotas, the second file, declare.
+
 ghost use Rattle.std.specs.Prelude.{IfErr, IfOk};
 ghost use Rattle.definitions.specs.Values.{IsProblem};
 ghost use Rattle.alloc_input.specs.Problems.{ProblemReads, ProblemRefusedFor, ReadsProblem};
 
-use crate::declared::declared_objects;
 use crate::faults::InputRefusal;
 use crate::prefs::{Preferences, read_preferences};
-use crate::stated::{SolveQuotas, read_solve_quotas};
+use crate::quotas::declared::declared_objects;
+use crate::quotas::solve::{SolveQuotas, read_solve_quotas};
 use quota_sets::Problem;
 use std::alloc::Global;
 use table_text::{Rows, records};
@@ -20,12 +22,8 @@ pub fn read_problem(alloc: Global, prefs: &[u8], quotas: &[u8]) -> Result<Proble
     ensures lawful { IfOk result IsProblem }
     ensures fault { IfErr result (ProblemRefusedFor prefs.now quotas.now) }
 {
-    let Ok(rows) = records(alloc, prefs) else {
-        return Err(InputRefusal::NoMemory);
-    };
-    let Ok(quota_rows) = records(alloc, quotas) else {
-        return Err(InputRefusal::NoMemory);
-    };
+    let rows = records(alloc, prefs)?;
+    let quota_rows = records(alloc, quotas)?;
     read_records(alloc, &rows, &quota_rows)
 }
 
@@ -34,21 +32,11 @@ fn read_records(alloc: Global, rows: &Rows, quota_rows: &Rows) -> Result<Problem
     ensures exact { ReadsProblem rows.now quota_rows.now result }
     ensures lawful { IfOk result IsProblem }
 {
-    let Ok(objects) = declared_objects(alloc, quota_rows) else {
-        return Err(InputRefusal::NoMemory);
-    };
-    let prefs = match read_preferences(alloc, rows, &objects) {
-        Ok(prefs) => prefs,
-        Err(refusal) => return Err(refusal),
-    };
-    let quotas = match read_solve_quotas(alloc, quota_rows, &prefs.agents, &objects) {
-        Ok(quotas) => quotas,
-        Err(refusal) => return Err(refusal),
-    };
+    let objects = declared_objects(alloc, quota_rows)?;
+    let prefs = read_preferences(alloc, rows, &objects)?;
+    let quotas = read_solve_quotas(alloc, quota_rows, &prefs.agents, &objects)?;
     let Preferences { agents, lists } = prefs;
     let SolveQuotas { family, demands } = quotas;
-    match Problem::with_demands(alloc, agents, objects, lists, demands, family) {
-        Ok(problem) => Ok(problem),
-        Err(_) => Err(InputRefusal::NoMemory),
-    }
+    let problem = Problem::with_demands(alloc, agents, objects, lists, demands, family)?;
+    Ok(problem)
 }

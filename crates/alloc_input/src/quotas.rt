@@ -1,11 +1,30 @@
+//! The reader of quotas, the second file: sets over the cells of a matrix, and demands. It knows agents and objects by
+//! their names alone.
+
 ghost use Rattle.std.specs.Prelude.{◌≡◌, ◌≤◌, ◌+◌, ◌^◌, IfErr, IfOk, length, true};
 ghost use Rattle.alloc_input.specs.Stated.{is_solve, setting_of};
 ghost use Rattle.alloc_input.specs.Quotas.{IsReadFor, QuotasRefusedFor, TextReadsAsDemands, TextReadsAsFamily};
 
-use crate::closing::{close_family, column_count};
+mod agents;
+mod closing;
+pub(crate) mod declared;
+mod demands;
+mod fields;
+mod labels;
+mod marks;
+mod numbers;
+mod objects;
+mod open_sets;
+mod records;
+mod sets;
+pub(crate) mod solve;
+mod state;
+mod words;
+
 use crate::faults::InputRefusal;
 use crate::mode::Mode;
-use crate::quota_reading::{demands_of, read_quota_records};
+use crate::quotas::closing::{close_family, column_count};
+use crate::quotas::records::{demands_of, read_quota_records};
 use quota_sets::{Family, Names};
 use std::alloc::Global;
 use table_text::records;
@@ -27,24 +46,17 @@ pub fn read_quotas(
     ensures value { IfOk result (TextReadsAsFamily (setting_of agents.now objects.now (is_solve mode)) bytes.now) }
     ensures fault { IfErr result (QuotasRefusedFor (setting_of agents.now objects.now (is_solve mode)) bytes.now) }
 {
-    let Ok(rows) = records(alloc, bytes) else {
-        return Err(InputRefusal::NoMemory);
-    };
-    let state = match read_quota_records(alloc, &rows, agents, objects, mode) {
-        Ok(state) => state,
-        Err(refusal) => return Err(refusal),
-    };
+    let rows = records(alloc, bytes)?;
+    let state = read_quota_records(alloc, &rows, agents, objects, mode)?;
     let columns = column_count(objects.len(), mode.is_solve());
-    match close_family(
+    let family = close_family(
         alloc,
         state.sets.as_slice(),
         agents.len(),
         objects.len(),
         columns,
-    ) {
-        Ok(family) => Ok(family),
-        Err(_) => Err(InputRefusal::NoMemory),
-    }
+    )?;
+    Ok(family)
 }
 
 /// Reads the demands that quotas state for `solve`: that of each agent, in order, and 1 where none is stated.
@@ -61,11 +73,7 @@ pub fn read_demands(
     ensures value { IfOk result (λ demands. TextReadsAsDemands (setting_of agents.now objects.now true) quotas.now demands.items) }
     ensures fault { IfErr result (QuotasRefusedFor (setting_of agents.now objects.now true) quotas.now) }
 {
-    let Ok(rows) = records(alloc, quotas) else {
-        return Err(InputRefusal::NoMemory);
-    };
-    match read_quota_records(alloc, &rows, agents, objects, Mode::Solve) {
-        Ok(state) => Ok(demands_of(state)),
-        Err(refusal) => Err(refusal),
-    }
+    let rows = records(alloc, quotas)?;
+    let state = read_quota_records(alloc, &rows, agents, objects, Mode::Solve)?;
+    Ok(demands_of(state))
 }

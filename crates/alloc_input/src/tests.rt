@@ -1,137 +1,125 @@
+//! What no contract says: with ample memory each reader answers, and tells each fault wherever it is found.
+//!
+//! Tests of whole runs show besides one case for each kind of fault in preferences and quotas, and their limits.
+
 use super::*;
-use crate::declared::declared_objects;
-use crate::prefs::{Preferences, read_preferences};
-use std::alloc::Global;
+use crate::fields::need_new;
+use std::alloc::{AllocError, Global};
 use std::test::Fail;
-use table_text::records;
 
-const QUOTAS: &[u8] = b"object,a,,1\n";
+const PREFS: &[u8] = b"agent\nu\nv\nx\n";
 
-// The preferences that two texts state.
-fn prefs_of(alloc: Global, prefs: &[u8], quotas: &[u8]) -> Result<Preferences, Fail> {
-    let rows = records(alloc, prefs)?;
-    let quota_rows = records(alloc, quotas)?;
-    let objects = declared_objects(alloc, &quota_rows)?;
-    let prefs = read_preferences(alloc, &rows, &objects)?;
-    Ok(prefs)
-}
-
-// A text with so many agents, each of whom lists nothing.
-pub(crate) fn many_agents(alloc: Global, count: u16) -> Result<Vec<u8>, Fail> {
-    let mut text = Vec::from_slice(alloc, b"agent\n")?;
-    for i in 0..count {
-        let line = format!(in alloc; "p{i}\n")?;
-        text.extend_from_slice(line.as_bytes())?;
-    }
-    Ok(text)
-}
-
-pub(crate) fn fault(record_no: u64, kind: InputKind) -> Option<InputRefusal> {
+fn fault(file: u8, record_no: u64, kind: InputKind) -> Option<InputRefusal> {
     Some(InputRefusal::Fault(InputFault {
-        file: 1,
+        file,
         record_no,
         kind,
     }))
 }
 
+// A text, and after it so many numbers between these texts.
+fn with_numbers(
+    alloc: Global,
+    text: &str,
+    before: &str,
+    after: &str,
+    count: u16,
+) -> Result<Vec<u8>, AllocError> {
+    let mut text = Vec::from_slice(alloc, text.as_bytes())?;
+    for number in 0..count {
+        let part = format!(in alloc; "{before}{number}{after}")?;
+        text.extend_from_slice(part.as_bytes())?;
+    }
+    Ok(text)
+}
+
 #[test]
-fn one_case_per_input_fault(rt: HostRuntime) {
-    let cases: [(&[u8], u64, InputKind); 10] = [
-        (b"agent\n\xFF\n", 2, InputKind::NotUtf8),
-        (b"agent\n,a\n", 2, InputKind::BadName),
-        (b"name\nx,a\n", 1, InputKind::NoHeader),
-        (b"agent\nx,a\nx\n", 3, InputKind::RepeatedAgent),
-        (b"agent\nx,b\n", 2, InputKind::UnknownObject),
-        (b"agent\nx,a,a\n", 2, InputKind::RepeatedChoice),
-        (b"agent\nx,none,a\n", 2, InputKind::NullNotLast),
-        (b"agent\n", 2, InputKind::NoAgents),
-        (b"agent\nx,*\n", 2, InputKind::BadName),
+fn demands_of_a_problem(rt: HostRuntime) -> Result<(), Fail> {
+    let quotas = b"object,a\nagent,v,2,2\n".as_slice();
+    let problem = read_problem(rt.alloc(), PREFS, quotas)?;
+    let objects = problem.objects();
+    need_new(objects, b"none", InputKind::NoneInSet)?;
+    let demands = read_demands(rt.alloc(), quotas, problem.agents(), objects)?;
+    assert_eq!(rt; demands.as_slice(), [1, 2, 1].as_slice());
+    Ok(())
+}
+
+#[test]
+fn sets_over_a_matrix(rt: HostRuntime) -> Result<(), Fail> {
+    let shares = read_matrix(rt.alloc(), b"agent,a,b\nu,1/2\nv,0.5,1/2\nx\n")?;
+    assert_eq!(rt; shares.entries().len(), 6);
+    lawful_matrices_suit();
+    let agents = shares.agents();
+    let objects = shares.objects();
+
+    let text =
+        b"agent,v,1,2\nobject,a,,3\ngroup,G,v,u,v\nbundle,B,b,a\nset,S,2,,3\nin,S,G,b\nin,S,v,B\nin,S,*,b\n";
+    let family = read_quotas(rt.alloc(), text, agents, objects, Mode::Decompose)?;
+    assert_eq!(rt; family.len(), 3);
+    assert_eq!(rt; family.get(3).ok_or("no set 3")?.cells().len(), 4);
+
+    let unknown = read_quotas(rt.alloc(), b"agent,w\n", agents, objects, Mode::Decompose);
+    assert_eq!(rt; unknown.err(), fault(2, 1, InputKind::UnknownName));
+    Ok(())
+}
+
+#[test]
+fn faults_of_a_problem(rt: HostRuntime) -> Result<(), Fail> {
+    let cases: [(&[u8], u64, InputKind); 15] = [
+        (b"object,a\nset,S,2,\xFF\n", 2, InputKind::NotUtf8),
+        (b"object,a\nagent,u,1000,1000\n", 2, InputKind::OverLimit),
+        (b"group,*,u\n", 1, InputKind::BadName),
+        (b"group,u,v\n", 1, InputKind::RepeatedName),
+        (b"group,G,u\ngroup,G,v\n", 2, InputKind::RepeatedName),
+        (b"group,G,u,w\n", 1, InputKind::UnknownName),
+        (b"bundle,*\n", 1, InputKind::BadName),
+        (b"bundle,none\n", 1, InputKind::NoneInSet),
+        (b"object,a\nbundle,a\n", 2, InputKind::RepeatedName),
+        (b"bundle,B\nbundle,B\n", 2, InputKind::RepeatedName),
+        (b"object,a\nbundle,B,a,none\n", 2, InputKind::NoneInSet),
+        (b"object,a\nbundle,B,b\n", 2, InputKind::UnknownName),
+        (b"set,S,2\nin,S,w,*\n", 2, InputKind::UnknownName),
+        (b"set,S,2\nin,S,*,none\n", 2, InputKind::NoneInSet),
+        (b"set,S,2\nin,S,*,b\n", 2, InputKind::UnknownName),
+    ];
+    for (quotas, record_no, kind) in cases {
+        let refusal = read_problem(rt.alloc(), PREFS, quotas).err();
+        assert_eq!(rt; refusal, fault(2, record_no, kind));
+    }
+    let star = read_problem(rt.alloc(), b"agent\nx,*\n", b"").err();
+    assert_eq!(rt; star, fault(1, 2, InputKind::BadName));
+    let mut sets = with_numbers(rt.alloc(), "", "set,S", ",2\n", 1000)?;
+    sets.extend_from_slice(b"object,a\n")?;
+    let many = read_problem(rt.alloc(), PREFS, &sets).err();
+    assert_eq!(rt; many, fault(2, 1001, InputKind::OverLimit));
+    Ok(())
+}
+
+#[test]
+fn faults_of_a_matrix(rt: HostRuntime) -> Result<(), Fail> {
+    let cases: [(&[u8], u64, InputKind); 12] = [
+        (b"agent,a\nx,\xFF\n", 2, InputKind::NotUtf8),
         (b"", 1, InputKind::NoHeader),
+        (b"name\n", 1, InputKind::NoHeader),
+        (b"agent,*\n", 1, InputKind::BadName),
+        (b"agent,none\n", 1, InputKind::BadName),
+        (b"agent,a,a\n", 1, InputKind::RepeatedName),
+        (b"agent,a\n*\n", 2, InputKind::BadName),
+        (b"agent,a\nx\nx\n", 3, InputKind::RepeatedAgent),
+        (b"agent,a\nx,0,1\n", 2, InputKind::WrongLength),
+        (b"agent,a\nx,.5\n", 2, InputKind::BadNumber),
+        (b"agent,a\nx,1001\n", 2, InputKind::OverLimit),
+        (b"agent,a\n", 2, InputKind::NoAgents),
     ];
-    for (prefs, record_no, kind) in cases {
-        assert_eq!(rt;
-            read_problem(rt.alloc(), prefs, QUOTAS).err(),
-            fault(record_no, kind)
-        );
+    for (text, record_no, kind) in cases {
+        let refusal = read_matrix(rt.alloc(), text).err();
+        assert_eq!(rt; refusal, fault(1, record_no, kind));
     }
-}
-
-#[test]
-fn the_first_check_of_a_record_counts(rt: HostRuntime) {
-    let cases: [(&[u8], u64, InputKind); 6] = [
-        (b"agent,\xFF\n", 1, InputKind::NotUtf8),
-        (b",,\nagent\nx,none,*\n", 3, InputKind::NullNotLast),
-        (b"agent\nx,none,none\n", 2, InputKind::NullNotLast),
-        (b"agent\nx\n*,b\n", 3, InputKind::BadName),
-        (b"agent\nx\nx,b\n", 3, InputKind::RepeatedAgent),
-        (b"agent\n\"\"\n,,\n", 4, InputKind::NoAgents),
-    ];
-    for (prefs, record_no, kind) in cases {
-        assert_eq!(rt;
-            read_problem(rt.alloc(), prefs, QUOTAS).err(),
-            fault(record_no, kind)
-        );
-    }
-}
-
-#[test]
-fn as_a_spreadsheet_writes_it(rt: HostRuntime) -> Result<(), Fail> {
-    let quotas = b"object,North,,1\r\nobject,South,0,1\r\n";
-    let mut text = Vec::from_slice(
-        rt.alloc(),
-        b"\xEF\xBB\xBFagent,first,second,third\r\n\"Lee, Ada\",North,South,\r\n\"O\"\"Dea, Jo\",North,South,none\r\n,,,\r\n",
-    )?;
-    let prefs = prefs_of(rt.alloc(), &text, quotas)?;
-    assert_eq!(rt; prefs.agents.len(), 2);
-    assert_eq!(rt; prefs.agents.at(0), Some("Lee, Ada"));
-    assert_eq!(rt; prefs.agents.at(1), Some("O\"Dea, Jo"));
-    assert_eq!(rt; prefs.lists.len(), 2);
-    assert_eq!(rt; prefs.lists[0].as_slice(), [0, 1, 2].as_slice());
-    assert_eq!(rt; prefs.lists[1].as_slice(), [0, 1, 2].as_slice());
-
-    text.extend_from_slice(b"Kim,East\r\n")?;
-    assert_eq!(rt;
-        read_problem(rt.alloc(), &text, quotas).err(),
-        fault(5, InputKind::UnknownObject)
-    );
-    Ok(())
-}
-
-#[test]
-fn objects_that_are_declared(rt: HostRuntime) -> Result<(), Fail> {
-    let quotas =
-        b"object,b\nobject,a,x,\xFF\nobject,b,1\nobject,none\nobject,*\nobject,c,1,2,3\nobject\nset,d,2\n,object,e\nobject,f,,,,\n";
-    let prefs = prefs_of(rt.alloc(), b"agent\nagent,f,,b,a\nnone,none\n", quotas)?;
-    assert_eq!(rt; prefs.lists.len(), 2);
-    assert_eq!(rt; prefs.lists[0].as_slice(), [2, 0, 1, 3].as_slice());
-    assert_eq!(rt; prefs.lists[1].as_slice(), [3].as_slice());
-    for prefs in [b"agent\nx,c\n", b"agent\nx,d\n", b"agent\nx,e\n"] {
-        assert_eq!(rt;
-            read_problem(rt.alloc(), prefs, quotas).err(),
-            fault(2, InputKind::UnknownObject)
-        );
-    }
-    Ok(())
-}
-
-#[test]
-fn limits_of_preferences(rt: HostRuntime) -> Result<(), Fail> {
-    let text = many_agents(rt.alloc(), 1000)?;
-    assert_eq!(rt; prefs_of(rt.alloc(), &text, QUOTAS)?.agents.len(), 1000);
-    let text = many_agents(rt.alloc(), 1001)?;
-    assert_eq!(rt;
-        read_problem(rt.alloc(), &text, QUOTAS).err(),
-        fault(1002, InputKind::OverLimit)
-    );
-
-    let letters = [b'a'; 65];
-    let mut text = Vec::from_slice(rt.alloc(), b"agent\n")?;
-    text.extend_from_slice(&letters[..64])?;
-    assert_eq!(rt; prefs_of(rt.alloc(), &text, QUOTAS)?.agents.len(), 1);
-    text.push(b'a')?;
-    assert_eq!(rt;
-        read_problem(rt.alloc(), &text, QUOTAS).err(),
-        fault(2, InputKind::BadName)
-    );
+    let objects = with_numbers(rt.alloc(), "agent", ",o", "", 201)?;
+    let refusal = read_matrix(rt.alloc(), &objects).err();
+    assert_eq!(rt; refusal, fault(1, 1, InputKind::OverLimit));
+    let agents = with_numbers(rt.alloc(), "agent\n", "p", "\n", 1001)?;
+    let refusal = read_matrix(rt.alloc(), &agents).err();
+    assert_eq!(rt; refusal, fault(1, 1002, InputKind::OverLimit));
     Ok(())
 }

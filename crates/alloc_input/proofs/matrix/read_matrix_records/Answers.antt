@@ -1,6 +1,7 @@
 use Rattle.std.proofs.Common.{◌∙◌, ◌*◌, ◌<◌, ◌≤◌, sym, refl, subst, arith, length, [], take}
 use Rattle.std.proofs.lemmas.List.{take_all, take_more}
 use Rattle.std.proofs.lemmas.List.Elements.{All-nil}
+use Rattle.std.proofs.lemmas.Result.{err_from_is_err_and}
 use Rattle.frac128.specs.declared.fractions.Fraction.{Fraction}
 use Rattle.frac128.specs.Fraction.{numerator, denominator}
 use Rattle.definitions.specs.Values.{SharesValue}
@@ -44,11 +45,12 @@ check_ending-requires c =
     let after = rw (take_all c.loop-i.i c.args.rows.now le) at inv.after in
     record { header = after.header; agents = after.agents }
 
-pub returns-in-Err-check_ending-clause-exact : goal.returns-in-Err-check_ending-clause-exact
-returns-in-Err-check_ending-clause-exact c =
+pub returns-in_err-check_ending-clause-exact : goal.returns-in_err-check_ending-clause-exact
+returns-in_err-check_ending-clause-exact c =
     let le : length c.args.rows.now ≤ c.loop-i.i = omega (arith, c.len-i-end.ensures) in
     let ends = c.loop-i.invariant.lawful ∙ fault-end check_matrix check_end c.args.rows.now c.loop-i.i le in
-    rw ends c.in-Err-check_ending.ensures
+    let p = err_from_is_err_and c.from_residual.result c.from_residual.ensures.1 in
+    rw (p.1, p.2, ends) c.in_err-check_ending.ensures
 
 pub new-requires-4-clause-shape : goal.new-requires-4-clause-shape
 new-requires-4-clause-shape c = length-entries (take c.loop-i.i c.args.rows.now) c.loop-i.state c.loop-i.invariant.after
@@ -60,7 +62,7 @@ returns-clause-exact c =
     let after = rw (take_all c.loop-i.i c.args.rows.now le) at inv.after in
     let P : SharesValue → Type 0 = λ m. ReadsAsMatrix c.args.rows.now m in
     subst P (sym c.new-4.ensures) (record {
-      lawful = inv.lawful ∙ fault-end check_matrix check_end c.args.rows.now c.loop-i.i le ∙ rw c.in_default-check_ending.ensures refl;
+      lawful = inv.lawful ∙ fault-end check_matrix check_end c.args.rows.now c.loop-i.i le ∙ rw c.in_ok-check_ending.ensures refl;
       agents_read = after.agents;
       objects_read = after.objects;
       entries_read = after.entries;
@@ -71,6 +73,6 @@ returns-clause-lawful c =
     let inv = c.loop-i.invariant in
     let le : length c.args.rows.now ≤ c.loop-i.i = omega (arith, c.len-i-end.ensures) in
     let after = rw (take_all c.loop-i.i c.args.rows.now le) at inv.after in
-    let none = inv.lawful ∙ fault-end check_matrix check_end c.args.rows.now c.loop-i.i le ∙ rw c.in_default-check_ending.ensures refl in
+    let none = inv.lawful ∙ fault-end check_matrix check_end c.args.rows.now c.loop-i.i le ∙ rw c.in_ok-check_ending.ensures refl in
     subst IsMatrix (sym c.new-4.ensures)
     (matrix-is-lawful c.args.rows.now c.loop-i.state none after inv.limited c.len-agent_count.ensures.lawful c.len-object_count.ensures.lawful)

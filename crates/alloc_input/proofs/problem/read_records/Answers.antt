@@ -3,10 +3,10 @@ use Rattle.alloc_input.proofs.problem.read_records.Goals as goal
 
 pub with_demands-requires-clause-parts : goal.with_demands-requires-clause-parts
 with_demands-requires-clause-parts c =
-    let quotas = c.in-Ok-read_solve_quotas.ensures in
-    problem-parts _ _ _ c.in-Ok.ensures c.in-Ok-read_preferences.ensures.lawful.many quotas.0 _ _ c.in-Ok-read_preferences.ensures.lawful quotas.1
+    let quotas = c.in_ok-quotas.ensures in
+    problem-parts _ _ _ c.in_ok-objects.ensures c.in_ok-prefs.ensures.lawful.many quotas.0 _ _ c.in_ok-prefs.ensures.lawful quotas.1
 
 pub with_demands-requires-clause-demands : goal.with_demands-requires-clause-demands
 with_demands-requires-clause-demands c =
-    let quotas = c.in-Ok-read_solve_quotas.ensures in
-    problem-demands _ _ _ c.in-Ok.ensures c.in-Ok-read_preferences.ensures.lawful.many quotas.0 _ quotas.2
+    let quotas = c.in_ok-quotas.ensures in
+    problem-demands _ _ _ c.in_ok-objects.ensures c.in_ok-prefs.ensures.lawful.many quotas.0 _ quotas.2

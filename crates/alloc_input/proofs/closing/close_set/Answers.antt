@@ -1,5 +1,0 @@
-use Rattle.alloc_input.proofs.RisingCells.{closed-lawful}
-use Rattle.alloc_input.proofs.closing.close_set.Goals as goal
-
-pub new-requires : goal.new-requires
-new-requires c = closed-lawful c.args.set.now c.in-Ok.cells.items c.requires.quotas c.in-Ok.ensures

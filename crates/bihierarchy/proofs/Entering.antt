@@ -7,7 +7,8 @@ use Rattle.std.proofs.lemmas.List.Elements.{All-set, All-from_get_or}
 use Rattle.std.proofs.lemmas.Nat.{same_from_place}
 use Rattle.definitions.specs.declared.Cell.{Cell}
 use Rattle.definitions.specs.Sets.{FamilyValue, IsSet, IsCellWithin, IsRising, cell_index, cell_of, holds, same_cell, set_cells, set_side}
-use Rattle.definitions.specs.Hierarchies.{IsHolder, IsEntry}
+use Rattle.definitions.specs.Hierarchies.{IsHolder}
+use Rattle.definitions.specs.Trees.{IsEntry}
 use Rattle.definitions.proofs.Members.{cell_test, cell_decides, member_at}
 use Rattle.bihierarchy.specs.Tables.{IsLeastOf, AreDeepest}
 use Rattle.bihierarchy.proofs.Least.{IsTested, least_same, least_passed, least_failed}

@@ -3,8 +3,9 @@ use Rattle.std.proofs.Common.{◌≡◌, ℕ, ◌+◌, ◌-◌, List, Option, No
 use Rattle.std.specs.Prelude.{MatchOption}
 use Rattle.std.proofs.lemmas.List.Elements.{All-from_get_or}
 use Rattle.definitions.specs.Sets.{FamilyValue}
-use Rattle.definitions.specs.Hierarchies.{IsTrees, IsEntry, HasNoParent, IsParent}
-use Rattle.bihierarchy.specs.Tables.{AreParents, AreDeepest}
+use Rattle.definitions.specs.Hierarchies.{HasNoParent, IsParent}
+use Rattle.definitions.specs.Trees.{IsTrees, IsEntry}
+use Rattle.bihierarchy.specs.Tables.{trees_from, AreParents, AreDeepest}
 
 -- a parent is a set
 known_parent : (f : FamilyValue) (s : ℕ) (o : Option ℕ) → MatchOption o (HasNoParent f s) (IsParent f s) → IsEntry (length f.sets) o
@@ -13,7 +14,7 @@ known_parent f s (Some p) h = h.above.known
 
 -- the tables of a family are trees
 pub trees_made : (f : FamilyValue) (parents one two : List (Option ℕ)) (n : ℕ) → AreParents f parents → AreDeepest f 1 n one → AreDeepest f 2 n two
-    → IsTrees (record { sets = length f.sets; agents = f.agents; columns = f.columns; parents = parents; deepest_one = one; deepest_two = two })
+    → IsTrees (trees_from (length f.sets) f.agents f.columns parents one two)
 trees_made f parents one two n p a b = record {
   parents_many = p.many;
   ones_many = a.many;

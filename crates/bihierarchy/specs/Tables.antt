@@ -1,8 +1,20 @@
--- The tables of trees while they are made.
+-- The tables of trees, and what they hold while they are made.
 use Rattle.std.specs.Prelude.{◌≡◌, ℕ, ◌-◌, ◌*◌, ◌<◌, ◌⊎◌, List, Option, None, length, MatchOption, slice_index_or, All}
 use Rattle.definitions.specs.declared.Cell.{Cell}
 use Rattle.definitions.specs.Sets.{FamilyValue, IsSet, IsCellWithin, cell_index}
-use Rattle.definitions.specs.Hierarchies.{IsLower, IsHolder, IsEntry, IsParent, HasNoParent}
+use Rattle.definitions.specs.Hierarchies.{IsLower, IsHolder, IsParent, HasNoParent}
+use Rattle.definitions.specs.Trees.{TreesValue, IsEntry}
+
+-- the trees over so many sets, agents and columns with these tables: the parents, and the deepest sets of sides 1 and 2
+abbrev pub trees_from : ℕ → ℕ → ℕ → List (Option ℕ) → List (Option ℕ) → List (Option ℕ) → TreesValue
+trees_from sets agents columns parents one two = record {
+  sets = sets;
+  agents = agents;
+  columns = columns;
+  parents = parents;
+  deepest_one = one;
+  deepest_two = two;
+}
 
 -- one entry for each set: its parent, or none where it has none
 pub record AreParents (f : FamilyValue) (parents : List (Option ℕ)) : Type 0 where

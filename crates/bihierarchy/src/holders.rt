@@ -1,4 +1,4 @@
-// The deepest set at each cell.
+// The deepest set of a side at each cell, as a table. It doesn't ask whether sets cross, and knows no parents.
 
 ghost use Rattle.std.specs.Prelude.{◌+◌, IfOk, length};
 ghost use Rattle.definitions.specs.Sets.{IsSet, set_side};
@@ -29,7 +29,8 @@ pub(crate) fn deepest_of(
     family: &Family,
     side: u8,
 ) -> Result<Vec<Option<u32>>, AllocError>
-    ensures { IfOk result (λ deepest. AreDeepest family.now side (length family.now.sets + 1) deepest.items) }
+    ensures { IfOk result (λ deepest.
+        AreDeepest family.now side (length family.now.sets + 1) deepest.items) }
 {
     let cells = family.agents() as usize * family.columns() as usize;
     let mut deepest = vec![in alloc; None; cells]?;

@@ -1,4 +1,5 @@
-// Pairs of sets of cells: what they share, whether they cross, whether one stands above the other.
+// Pairs of sets of cells: what they share, whether they cross, whether one stands above the other. Here alone cells
+// are read. Nothing here goes over all sets of a family or takes memory.
 
 ghost use Rattle.std.specs.Prelude.{◌≡◌, ◌↔◌, All, count_by, IsTrue, IfSome, MatchOption};
 ghost use Rattle.definitions.specs.Hierarchies.{IsAbove, IsLower};
@@ -56,7 +57,8 @@ pub(crate) fn cells_of(family: &Family, set: u32) -> &[Cell]
     requires { IsSet family.now set }
     ensures value { result.now ≡ set_cells family.now set }
     ensures rise { IsRising (set_cells family.now set) }
-    ensures inside { All (IsCellWithin family.now.agents family.now.columns) (set_cells family.now set) }
+    ensures inside { All (IsCellWithin family.now.agents family.now.columns)
+        (set_cells family.now set) }
 {
     family.get(set).unwrap().cells()
 }

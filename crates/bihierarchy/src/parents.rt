@@ -1,4 +1,4 @@
-// The parent of each set.
+// The parent of each set, as a table. It doesn't ask whether sets cross, and reads no cell.
 
 ghost use Rattle.std.specs.Prelude.{◌≡◌, IfOk, MatchOption};
 ghost use Rattle.definitions.specs.Hierarchies.{HasNoParent, IsParent};

@@ -1,7 +1,7 @@
-//! The two trees of a family as tables.
+//! The two trees of a family as tables, or why it has none. How they are made stands in the other files.
 
 ghost use Rattle.std.specs.Prelude.{◌≡◌, ◌<◌, ◌≤◌, ◌⊎◌, IfOk, IfErr};
-ghost use Rattle.definitions.specs.Hierarchies.{IsTrees, AreTreesOf, parent_at, deepest_at};
+ghost use Rattle.definitions.specs.Trees.{IsTrees, AreTreesOf, parent_at, deepest_at};
 ghost use Rattle.definitions.specs.Sets.{IsCellWithin};
 ghost use Rattle.bihierarchy.specs.Crossing.{IsCrossingFault};
 
@@ -28,13 +28,16 @@ pub struct Trees {
 }
 
 impl Model for Trees {
-    ghost use Rattle.definitions.specs.Hierarchies.{TreesValue, IsTrees};
+    ghost use Rattle.definitions.specs.Trees.{TreesValue, IsTrees};
+    ghost use Rattle.bihierarchy.specs.Tables.{trees_from};
 
     ghost Value = { TreesValue };
 
-    ghost view = { λ t. record { sets = t.sets; agents = t.agents; columns = t.columns; parents = t.parents.items; deepest_one = t.deepest_one.items; deepest_two = t.deepest_two.items } };
+    ghost view = { λ t. trees_from t.sets t.agents t.columns t.parents.items
+        t.deepest_one.items t.deepest_two.items };
 
-    ghost invariant = { λ t. IsTrees (record { sets = t.sets; agents = t.agents; columns = t.columns; parents = t.parents.items; deepest_one = t.deepest_one.items; deepest_two = t.deepest_two.items }) };
+    ghost invariant = { λ t. IsTrees (trees_from t.sets t.agents t.columns t.parents.items
+        t.deepest_one.items t.deepest_two.items) };
 }
 
 /// Why a family has no trees.

@@ -1,4 +1,4 @@
--- A step, one slot after the other.
+-- A step, one limit after the other.
 use Rattle.std.proofs.Common.{◌≡◌, ◌≢◌, ℕ, ◌+◌, ◌<◌, ◌≤◌, List, length, set, sym, ◌∙◌, subst, arith, inl, inr}
 use Rattle.std.specs.Prelude.{slice_index}
 use Rattle.std.proofs.lemmas.Bool.{cases_lt}
@@ -10,7 +10,7 @@ pub advanced_read : (U f s at a b d a' b' d' x y : ℕ) → a ≡ a' → b ≡ b
 advanced_read U f s at a b d a' b' d' x y p q r h =
     subst (λ n. IsAdvanced U f s at n b' d' x y) p (subst (λ n. IsAdvanced U f s at a n d' x y) q (subst (λ n. IsAdvanced U f s at a b n x y) r h))
 
--- one slot more is done
+-- one limit more is done
 pub advanced_more : (U f s at : ℕ) (e r v e' r' : List ℕ) (n x y : ℕ) → n < length e' → n < length r'
     → ((j : ℕ) → j < n → IsAdvanced U f s at (slice_index e j) (slice_index r j) (slice_index v j) (slice_index e' j) (slice_index r' j))
     → IsAdvanced U f s at (slice_index e n) (slice_index r n) (slice_index v n) x y
@@ -27,6 +27,6 @@ advanced_more U f s at e r v e' r' n x y l m done here j k = elim (cases_lt j n)
       (subst (λ b. IsAdvanced U f s at (slice_index e n) (slice_index r n) (slice_index v n) x b) (sym (get_or-set_same r' n y 0 m)) here))
 ]
 
--- the slots after it stay
+-- the limits after it stay
 pub kept_more : (xs ys : List ℕ) (n x : ℕ) → ((j : ℕ) → n ≤ j → slice_index ys j ≡ slice_index xs j) → (j : ℕ) → n + 1 ≤ j → slice_index (set ys n x) j ≡ slice_index xs j
 kept_more xs ys n x h j l = get_or-set_other ys n j x 0 (λ same. omega arith) ∙ h j (omega arith)

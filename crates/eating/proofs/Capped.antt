@@ -22,7 +22,7 @@ one_place (a ∷ list) d (suc i) zero l m e =
     absurd (both_ways (is_member nat_eq list a) (distinct_first nat_eq a list d) (subst (λ x. is_member nat_eq list x ≡ true) e (member_at nat_eq number_test list i 0 (omega arith))))
 one_place (a ∷ list) d (suc i) (suc j) l m e = ap suc (one_place list (distinct_rest nat_eq a list d) i j (omega arith) (omega arith) e)
 
--- a slot of two lists of limits, in the first and in the second
+-- a limit of two lists of limits, in the first and in the second
 pub cells_left : (xs ys : List Limit) (x : ℕ) → x < length xs → cells_at (xs ++ ys) x ≡ cells_at xs x
 cells_left [] ys x l = absurd (omega arith)
 cells_left (s ∷ xs) ys zero l = refl
@@ -100,7 +100,7 @@ later_agent i (w ∷ agents) x k b h = elim (cases_lt x (capped_count w.demand w
   | inr more ↦ (let r = later_agent (i + 1) agents (x - capped_count w.demand w.list) k b (subst (λ c. holds c (cell_of k b) ≡ true) (step_cells i w agents x more) h) in omega (arith, r))
 ]
 
--- slot x of the capped cells is that of a place of an agent, whose first slot is `start`
+-- limit x of the capped cells is that of a place of an agent, whose own limits begin at `start`
 pub record IsCapAt (w : Agent) (start x b : ℕ) : Type 0 where
   pub low : start ≤ x
   pub inside : x - start < capped_count w.demand w.list

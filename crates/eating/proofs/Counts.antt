@@ -116,9 +116,9 @@ pub caps_room : (p : ProblemValue) (i : ℕ) → IsProblem p → i < length p.ag
     → caps_before (take i (market_of p).agents) + capped_count (demand_at p i) (list_at p i) ≤ caps_before (market_of p).agents
 caps_room p i h l = (let more = caps_more p i h l in omega (arith, more, sum_by-take-le (λ (w : Agent). capped_count w.demand w.list) (market_of p).agents (i + 1)))
 
--- there are few slots
-pub slots_few : (p : ProblemValue) → IsProblem p → length (limits_of p) ≤ 201000
-slots_few p h =
+-- there are few limits
+pub limits_few : (p : ProblemValue) → IsProblem p → length (limits_of p) ≤ 201000
+limits_few p h =
     let stated : List Limit = map (λ (s : SetValue). record { ceiling = s.ceiling; cells = s.cells }) (stated_sets p) in
     let whole = length-append stated (capped_limits 0 (market_of p).agents) in
     let same : length stated ≡ length (stated_sets p) = length-map (stated_sets p) (λ (s : SetValue). record { ceiling = s.ceiling; cells = s.cells }) in

@@ -26,7 +26,7 @@ module _ (U u : ℕ) (e r v : List ℕ) (n : ℕ) where
 
   wider : (m : Fraction) → IsEarliest U u n e r v m → (slice_index e n ≡ U → IsNoLater U u (slice_index r n) (slice_index v n) m) → IsEarliest U u (n + 1) e r v m
   wider m h last = record {
-    slot = h.slot;
+    limit = h.limit;
     known = (let l = h.known in omega arith);
     is_open = h.is_open;
     key = h.key;
@@ -46,7 +46,7 @@ module _ (U u : ℕ) (e r v : List ℕ) (n : ℕ) where
   next_open None (Some b) result is_open h key is =
       let small = key_small U u (slice_index r n) (slice_index v n) b key in
       subst (IsNext U u (n + 1) e r v) (sym is) (record {
-        slot = n;
+        limit = n;
         known = omega arith;
         is_open = is_open;
         key = key;
@@ -55,14 +55,14 @@ module _ (U u : ℕ) (e r v : List ℕ) (n : ℕ) where
       })
   next_open (Some a) None result is_open h key is =
       subst (IsNext U u (n + 1) e r v) (sym is)
-      (wider a h (λ o. late U u (slice_index r n) (slice_index v n) a (key_small U u (slice_index r h.slot) (slice_index v h.slot) a h.key) key))
+      (wider a h (λ o. late U u (slice_index r n) (slice_index v n) a (key_small U u (slice_index r h.limit) (slice_index v h.limit) a h.key) key))
   next_open (Some a) (Some b) result is_open h key (inl is) =
       subst (IsNext U u (n + 1) e r v) (sym is.0)
       (wider a h (λ o. through (numerator b) (denominator b) (numerator a) (denominator a) (U * slice_index v n) (u * slice_index v n + slice_index r n) b.positive is.1
       (let same = key.value in omega (arith, same))))
   next_open (Some a) (Some b) result is_open h key (inr is) =
       subst (IsNext U u (n + 1) e r v) (sym is.0) (record {
-        slot = n;
+        limit = n;
         known = omega arith;
         is_open = is_open;
         key = key;

@@ -16,7 +16,6 @@ use Rattle.definitions.specs.Values.{Limit, Agent, ProblemValue, IsProblem, colu
 use Rattle.definitions.specs.Eating.{full_at, share, IsAssignmentOf, IsEatingTable, IsLowestTerms}
 use Rattle.definitions.proofs.Members.{number_test, member_at}
 use Rattle.definitions.proofs.Sums.{unit_at_within, sum_of_units}
-use Rattle.eating_laws.specs.Shares.{IsMatrixFor}
 use Rattle.eating_laws.proofs.Full.{cells_at}
 use Rattle.definitions.proofs.Problems.{agent_of, list_lawful}
 use Rattle.eating_laws.proofs.Limits.{agent_count, demand_total}
@@ -28,7 +27,7 @@ use Rattle.eating.specs.Eaten.{EatenValue, IsEatenValue}
 use Rattle.eating.specs.Answers.{IsEatenBy, cap_at}
 use Rattle.eating.proofs.Capped.{cap_found, IsCapAt}
 use Rattle.eating.proofs.Counts.{capped_length, capped_ones}
-use Rattle.eating.proofs.Slots.{stated_count}
+use Rattle.eating.proofs.Limits.{stated_count}
 
 module _ (p : ProblemValue) (h : IsProblem p) where
   abbrev stated_limits : List Limit
@@ -110,18 +109,21 @@ module _ (p : ProblemValue) (h : IsProblem p) where
     abbrev pub matrix_of : ScaledValue
     matrix_of = record { denominator = D; agents = length p.agents; columns = column_count p; units = units }
 
-    assigned : IsAssignmentOf (market_of p) D e matrix_of
-    assigned = record { denominator = refl; units = λ i a l m. unit_at_within (column_count p) units (cell_of i a) m ∙ shares i a l m }
-
-    shaped : IsMatrixFor p matrix_of
-    shaped = record { agents = refl; columns = refl; shape = many }
+    assigned : IsAssignmentOf (column_count p) (market_of p) D e matrix_of
+    assigned = record {
+      agents = sym (agent_count p h);
+      columns = refl;
+      shape = many;
+      denominator = refl;
+      units = λ i a l m. unit_at_within (column_count p) units (cell_of i a) m ∙ shares i a l m;
+    }
 
     pub matrix_lawful : IsScaledMatrix matrix_of
     matrix_lawful = record {
       one = (let one : 1 ≤ D = table.positive in omega arith);
       limit = fine;
       shape = many;
-      total = (let rows = (eating_assigns p matrix_of e h shaped table assigned).rows in
+      total = (let rows = (eating_assigns p matrix_of e h table assigned).rows in
           let agents : length p.demands ≡ length p.agents = h.demands_many in
           let whole : sum_by (unit_at (column_count p) units) (all_cells (length p.agents) (column_count p)) ≡ sum p.demands * D =
           ap (λ n. sum_by (unit_at (column_count p) units) (flat_map (row_cells (column_count p)) (range_with_len 0 n))) (sym agents)
@@ -143,7 +145,6 @@ module _ (p : ProblemValue) (h : IsProblem p) where
       lowest = lowest;
       within = fine;
       moments = refl;
-      matrix = shaped;
       shares = assigned;
       caps = record { many = many_caps; each = at_caps };
     }

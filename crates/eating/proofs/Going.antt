@@ -13,19 +13,19 @@ module _ (U u : ℕ) (e rests speeds : List ℕ) (unit_positive : 0 < U) (m : Fr
   pub new_positive : 0 < U'
   new_positive = multiple_positive U (denominator m) U' least unit_positive m.positive
 
-  speed_positive : 0 < slice_index speeds next.slot
-  speed_positive = some (slice_index speeds next.slot) next.key.before_end
+  speed_positive : 0 < slice_index speeds next.limit
+  speed_positive = some (slice_index speeds next.limit) next.key.before_end
     where
-      some : (v : ℕ) → u * v + slice_index rests next.slot < U * v → 0 < v
+      some : (v : ℕ) → u * v + slice_index rests next.limit < U * v → 0 < v
       some zero h = absurd (omega arith)
       some (suc v) h = omega arith
 
   -- the new unit isn't above the old one times the speed of the limit
-  pub new_within : U' ≤ U * slice_index speeds next.slot
+  pub new_within : U' ≤ U * slice_index speeds next.limit
   new_within =
-      let end : 0 < U * slice_index speeds next.slot = mul-pos unit_positive speed_positive in
-      le_of_dvd end (least.least (U * slice_index speeds next.slot) (dvd-mul_right U (slice_index speeds next.slot))
-      (key_divides (numerator m) (denominator m) (U * slice_index speeds next.slot) (u * slice_index speeds next.slot + slice_index rests next.slot) next.key.value end m.positive m.lowest))
+      let end : 0 < U * slice_index speeds next.limit = mul-pos unit_positive speed_positive in
+      le_of_dvd end (least.least (U * slice_index speeds next.limit) (dvd-mul_right U (slice_index speeds next.limit))
+      (key_divides (numerator m) (denominator m) (U * slice_index speeds next.limit) (u * slice_index speeds next.limit + slice_index rests next.limit) next.key.value end m.positive m.lowest))
 
   module _ (c w : ℕ) (one : c * U ≡ U') (two : w * denominator m ≡ U') where
     pub factor_some : 0 < c
@@ -34,18 +34,18 @@ module _ (U u : ℕ) (e rests speeds : List ℕ) (unit_positive : 0 < U) (m : Fr
     -- the moment is before the end
     pub moment_below : numerator m * w < U'
     moment_below =
-        let j = next.slot in
+        let j = next.limit in
         let below : numerator m < denominator m = key_below_one (numerator m) (denominator m) (U * slice_index speeds j) (u * slice_index speeds j + slice_index rests j) next.key.value next.key.before_end m.positive in
         let more : w * numerator m < w * denominator m = mul-lt-mul_of_pos_left below (factor_positive (denominator m) w U' (mul_comm (denominator m) w ∙ two) new_positive) in
         omega (arith, more, two, mul_comm (numerator m) w)
 
-    key_is : slice_index speeds next.slot * (numerator m * w) ≡ slice_index speeds next.slot * (c * u) + c * slice_index rests next.slot
-    key_is = key_equal U u (slice_index speeds next.slot) (slice_index rests next.slot) (numerator m) (denominator m) c w U' unit_positive one two next.key.value
+    key_is : slice_index speeds next.limit * (numerator m * w) ≡ slice_index speeds next.limit * (c * u) + c * slice_index rests next.limit
+    key_is = key_equal U u (slice_index speeds next.limit) (slice_index rests next.limit) (numerator m) (denominator m) c w U' unit_positive one two next.key.value
 
     -- and not before the present moment
     pub moment_after : c * u ≤ numerator m * w
     moment_after =
-        let v = slice_index speeds next.slot in
+        let v = slice_index speeds next.limit in
         let more : v * (c * u) ≤ v * (numerator m * w) = omega (arith, key_is) in
         le_of_mul-le-mul_right (omega (arith, more, mul_comm v (c * u), mul_comm v (numerator m * w))) speed_positive
 
@@ -58,10 +58,10 @@ module _ (U u : ℕ) (e rests speeds : List ℕ) (unit_positive : 0 < U) (m : Fr
           omega (arith, order, at, mul-add (slice_index speeds j) (c * u) s)
 
       -- and the limit whose moment it is is full
-      pub slot_full : slice_index speeds next.slot * s ≡ c * slice_index rests next.slot
-      slot_full =
-          let at = ap (λ n. slice_index speeds next.slot * n) sum in
-          omega (arith, key_is, at, mul-add (slice_index speeds next.slot) (c * u) s)
+      pub limit_full : slice_index speeds next.limit * s ≡ c * slice_index rests next.limit
+      limit_full =
+          let at = ap (λ n. slice_index speeds next.limit * n) sum in
+          omega (arith, key_is, at, mul-add (slice_index speeds next.limit) (c * u) s)
 
 -- what the step needs, by the numbers as they are read
 pub record IsGoing (U u : ℕ) (e rests speeds : List ℕ) (m : Fraction) (unit den num : ℕ) : Type 0 where

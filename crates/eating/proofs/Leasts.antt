@@ -1,4 +1,4 @@
--- Least numbers over lists of slots, part by part.
+-- Least numbers over lists of limits, part by part.
 use Rattle.std.proofs.Common.{◌≡◌, ℕ, suc, zero, ◌+◌, ◌-◌, ◌<◌, ◌≤◌, List, [], ◌∷◌, Bool, true, false, cond, length, get_or, drop, refl, ap, sym, ◌∙◌, arith, inl, inr, subst, Option}
 use Rattle.std.specs.Prelude.{min, nat_le, count_by, ◌==◌, slice_get}
 use Rattle.std.specs.Option.{option_map_or}
@@ -7,7 +7,7 @@ use Rattle.std.proofs.lemmas.List.{at_drop_more, at_drop_all, get_or-drop, lengt
 use Rattle.std.proofs.lemmas.List.Sums.{sum_by-cons, get_or-le-sum_by}
 use Rattle.definitions.specs.Sets.{cell_of, holds}
 use Rattle.definitions.specs.Values.{Limit, Market}
-use Rattle.definitions.specs.Eating.{full_at, moment_at, slot_cells}
+use Rattle.definitions.specs.Eating.{full_at, moment_at, limit_cells}
 use Rattle.eating_laws.proofs.Full.{cells_at, full_le, full_below, full_from}
 use Rattle.eating_laws.proofs.Holders.{IsHolders, least_of}
 use Rattle.eating.specs.Plan.{least_from}
@@ -20,14 +20,14 @@ least_cons : (D : ℕ) (e : List ℕ) (h : ℕ) (holders : List ℕ) → least_o
 unfolding least_of
 least_cons D e h holders = refl
 
--- one slot more of what is left of a list
+-- one limit more of what is left of a list
 pub least_more : (D : ℕ) (e holders : List ℕ) (i : ℕ) → i < length holders → least_of D e (drop i holders) ≡ min (moment_at e (get_or holders i 0)) (least_of D e (drop (i + 1) holders))
 least_more D e holders i l = at_drop_more (least_of D e) holders i 0 l ∙ least_cons D e (get_or holders i 0) (drop (i + 1) holders)
 
 pub least_all : (D : ℕ) (e holders : List ℕ) (i : ℕ) → length holders ≤ i → least_of D e (drop i holders) ≡ D
 least_all D e holders i l = at_drop_all (least_of D e) holders i l ∙ least_none D e
 
--- the same of the slots from `first` on
+-- the same of the limits from `first` on
 pub from_le : (D : ℕ) (e : List ℕ) (first : ℕ) (holders : List ℕ) → least_from D e first holders ≤ D
 unfolding least_from
 from_le D e first [] = omega arith
@@ -121,12 +121,12 @@ full_from_holders market D first e holders i a size h =
     (λ k l f. low k l f) in
     omega arith
   where
-    held : (k : ℕ) → k < length holders → holds (slot_cells market (get_or holders k 0)) (cell_of i a) ≡ true
+    held : (k : ℕ) → k < length holders → holds (limit_cells market (get_or holders k 0)) (cell_of i a) ≡ true
     held k l =
         let j = get_or holders k 0 in
         let self = ap {B = ℕ} (λ b. cond b 1 0) (eq-eqb j j refl) in
         let there : cond {A = ℕ} (j == j) 1 0 ≤ count_by (λ x. x == j) holders = get_or-le-sum_by (λ x. cond (x == j) 1 0) holders k 0 l in
-        bit_of (holds (slot_cells market j) (cell_of i a)) (omega (arith, self, there, h.once j (h.inside k 0 l)))
+        bit_of (holds (limit_cells market j) (cell_of i a)) (omega (arith, self, there, h.once j (h.inside k 0 l)))
 
     low : (k : ℕ) → k < length holders → first ≤ get_or holders k 0 → full_at D (drop first market.limits) (drop first e) i a ≤ moment_at e (get_or holders k 0)
     low k l f =

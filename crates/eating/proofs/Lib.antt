@@ -10,7 +10,8 @@ pub mod Places
 pub mod Counts
 pub mod Advancing
 pub mod Capped
-pub mod Slots
+pub mod Limits
+pub mod ManyMoments
 pub mod Going
 pub mod Running
 pub mod Rounds

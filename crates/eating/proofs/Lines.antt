@@ -11,9 +11,9 @@ use Rattle.std.proofs.lemmas.List.Sums.{sum_by-cons}
 use Rattle.std.specs.Option.{option_map_or}
 use Rattle.definitions.specs.declared.Cell.{Cell}
 use Rattle.definitions.specs.Sets.{cell_of, holds}
-use Rattle.definitions.specs.Hierarchies.{TreesValue, AreTreesOf}
+use Rattle.definitions.specs.Trees.{TreesValue, AreTreesOf}
 use Rattle.definitions.specs.Values.{Limit, Agent, Market, ProblemValue, IsProblem, market_of, limits_of, list_at, demand_at}
-use Rattle.definitions.specs.Eating.{slot_cells}
+use Rattle.definitions.specs.Eating.{limit_cells}
 use Rattle.eating_laws.proofs.Holders.{IsHolders}
 use Rattle.definitions.proofs.Problems.{list_lawful}
 use Rattle.eating_laws.proofs.Limits.{agent_count, none_free, demand_total}
@@ -21,7 +21,7 @@ use Rattle.eating.specs.Caps.{capped_count, caps_before}
 use Rattle.eating.specs.Holders.{holders_in, made_holders}
 use Rattle.eating.specs.Plan.{LineValue, holders_at, IsLine, IsLineOf, AreLinesOf}
 use Rattle.eating.proofs.Counts.{list_short}
-use Rattle.eating.proofs.Slots.{slots_right}
+use Rattle.eating.proofs.Limits.{limits_right}
 
 read_made : (f : ℕ → List ℕ) (n k : ℕ) → k < n → unwrap_or (slice_get (map f (range_with_len 0 n)) k) [] ≡ f k
 read_made f n k l =
@@ -48,7 +48,7 @@ pub made_none : (p : ProblemValue) (t : TreesValue) (i capped caps : ℕ) → []
 unfolding made_holders
 made_none p t i capped caps = refl
 
--- slots below n are not j from n on
+-- limits below n are not j from n on
 none_past : (n j : ℕ) (holders : List ℕ) → ((k : ℕ) → k < length holders → get_or holders k 0 < n) → n ≤ j → count_by (λ h. h == j) holders ≡ 0
 none_past n j [] inside l = refl
 none_past n j (h ∷ holders) inside l =
@@ -60,7 +60,7 @@ at_most_one true = omega arith
 at_most_one false = omega arith
 
 -- the holders of a cell that no limit holds
-free_holders : (market : Market) (i a : ℕ) (holders : List ℕ) → IsHolders market i a holders → ((j : ℕ) → j < length market.limits → holds (slot_cells market j) (cell_of i a) ≡ false) → holders ≡ []
+free_holders : (market : Market) (i a : ℕ) (holders : List ℕ) → IsHolders market i a holders → ((j : ℕ) → j < length market.limits → holds (limit_cells market j) (cell_of i a) ≡ false) → holders ≡ []
 free_holders market i a [] h free = refl
 free_holders market i a (x ∷ holders) h free =
     let inside = h.inside 0 0 (omega arith) in
@@ -84,7 +84,7 @@ module _ (p : ProblemValue) (h : IsProblem p) (t : TreesValue) (r : AreTreesOf p
   holders_right k l =
       subst (IsHolders (market_of p) i (slice_index (list_at p i) k)) (sym (holders_read k l))
       (subst (λ n. IsHolders (market_of p) i (slice_index (list_at p i) k) (holders_in p t i k n caps)) (sym capped_is)
-      (subst (λ n. IsHolders (market_of p) i (slice_index (list_at p i) k) (holders_in p t i k (p.stated + caps_before (take i (market_of p).agents)) n)) (sym caps_is) (slots_right p h t r i k known l)))
+      (subst (λ n. IsHolders (market_of p) i (slice_index (list_at p i) k) (holders_in p t i k (p.stated + caps_before (take i (market_of p).agents)) n)) (sym caps_is) (limits_right p h t r i k known l)))
 
   same_list : length line.columns ≡ length (list_at p i)
   same_list = ap length columns
@@ -97,9 +97,9 @@ module _ (p : ProblemValue) (h : IsProblem p) (t : TreesValue) (r : AreTreesOf p
     holders = λ k l. subst (λ a. IsHolders (market_of p) i a (holders_at line k)) (sym (ap (λ list. slice_index list k) columns)) (holders_right k (omega (arith, l, same_list)));
   }
 
-  -- over the problem's slots
-  pub line_slots : IsLine (length (limits_of p)) line
-  line_slots = record {
+  -- over the problem's limits
+  pub line_limits : IsLine (length (limits_of p)) line
+  line_limits = record {
     many = ap length made ∙ made_many p t i capped caps (length (list_at p i)) ∙ sym same_list;
     some = omega (arith, same_list, short.0);
     short = omega (arith, same_list, short.1);
@@ -111,7 +111,7 @@ module _ (p : ProblemValue) (h : IsProblem p) (t : TreesValue) (r : AreTreesOf p
       short : (1 ≤ length (list_at p i)) × (length (list_at p i) ≤ 201)
       short = list_short p i h known
 
-      free : (j : ℕ) → j < length (limits_of p) → holds (slot_cells (market_of p) j) (cell_of i (length p.objects)) ≡ false
+      free : (j : ℕ) → j < length (limits_of p) → holds (limit_cells (market_of p) j) (cell_of i (length p.objects)) ≡ false
       free j l =
           let d : Limit = record { ceiling = 0; cells = [] } in
           ap (λ (o : Option Limit). holds (cells o) (cell_of i (length p.objects))) (slice_get-get_or (limits_of p) j d l) ∙ none_free p i h j d l
@@ -136,7 +136,7 @@ module _ (p : ProblemValue) (h : IsProblem p) (t : TreesValue) (r : AreTreesOf p
       once : (k j : ℕ) → count_by (λ x. x == j) (holders_at line k) ≤ 1
       once k j = elim (cases_lt k (length (list_at p i))) [
         | inl l ↦ elim (cases_lt j (length (limits_of p))) [
-          | inl m ↦ (let one = (holders_right k l).once j m in omega (arith, one, at_most_one (holds (slot_cells (market_of p) j) (cell_of i (slice_index (list_at p i) k)))))
+          | inl m ↦ (let one = (holders_right k l).once j m in omega (arith, one, at_most_one (holds (limit_cells (market_of p) j) (cell_of i (slice_index (list_at p i) k)))))
           | inr m ↦ (let none = none_past (length (limits_of p)) j (holders_at line k) (λ q n. (holders_right k l).inside q 0 n) m in omega (arith, none))
         ]
         | inr past ↦ subst (λ xs. count_by (λ x. x == j) xs ≤ 1) (sym (holders_past k past)) (let z : 0 ≤ 1 = omega arith in z)
@@ -168,11 +168,11 @@ same_demands (w ∷ agents) (x ∷ lines) many h =
 pub lines_right : (p : ProblemValue) (lines : List LineValue) → IsProblem p → length lines ≡ length p.agents
     → ((i : ℕ) (w : Agent) (line : LineValue) → slice_get (market_of p).agents i ≡ Some w → slice_get lines i ≡ Some line → IsLineOf (market_of p) i w line)
     → ((i : ℕ) (line : LineValue) → slice_get lines i ≡ Some line → IsLine (length (limits_of p)) line) → AreLinesOf (market_of p) lines
-lines_right p lines h many each slots = record {
+lines_right p lines h many each limits = record {
   many = many ∙ sym (agent_count p h);
   each = each;
-  slots = record {
-    each = slots;
+  limits = record {
+    each = limits;
     demands = (let same = same_demands (market_of p).agents lines (many ∙ sym (agent_count p h)) (λ i w line a b. (each i w line a b).demand) in
         let total = demand_total p h in omega (arith, same, total, h.demands_limit));
   };

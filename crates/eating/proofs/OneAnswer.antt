@@ -1,16 +1,12 @@
 -- A problem has one answer of eating: one table that is eaten, or one first table that is too fine, and not both.
-use Rattle.std.proofs.Common.{◌≡◌, ℕ, suc, zero, ◌+◌, ◌*◌, ◌<◌, ◌≤◌, List, length, get_or, ap, sym, ◌∙◌, subst, arith, mul_comm}
-use Rattle.std.specs.Prelude.{◌/◌, ◌%◌, ◌^◌, nat_eq}
+use Rattle.std.proofs.Common.{◌≡◌, ℕ, suc, zero, ◌+◌, ◌*◌, ◌<◌, List, length, get_or, ap, sym, ◌∙◌, subst, arith, mul_comm}
+use Rattle.std.specs.Prelude.{◌/◌, ◌%◌}
 use Rattle.std.proofs.Math.Nat.{div-add-mod, mod-lt}
 use Rattle.std.proofs.lemmas.List.{ext_get_or}
 use Rattle.definitions.specs.Sets.{ScaledValue, cell_of, unit_at}
-use Rattle.definitions.specs.Values.{ProblemValue, IsProblem, column_count, market_of, limits_of}
-use Rattle.definitions.specs.Eating.{share, demand_sum, IsAssignmentOf}
-use Rattle.definitions.proofs.Members.{number_test, member_at}
+use Rattle.definitions.specs.Values.{Market, ProblemValue, column_count, market_of}
+use Rattle.definitions.specs.Eating.{share, IsAssignmentOf}
 use Rattle.definitions.proofs.Sums.{unit_at_within}
-use Rattle.eating_laws.specs.Shares.{IsMatrixFor}
-use Rattle.eating_laws.proofs.Bound.{partial_bound}
-use Rattle.eating_laws.proofs.Limits.{demands_some}
 use Rattle.eating_laws.proofs.Fine.{below_from_product}
 use Rattle.eating_laws.proofs.Unique.{same_table}
 use Rattle.eating_laws.proofs.TooFine.{not_too_fine, one_first}
@@ -52,37 +48,26 @@ same_caps : (p : ProblemValue) (D : ℕ) (e xs ys : List ℕ) → AreCaps p D e 
 same_caps p D e xs ys h k =
     same_units (length p.agents) (column_count p) xs ys h.many k.many (λ i a l m. h.each i a l m ∙ sym (k.each i a l m))
 
--- the matrix of a table's assignment, by the problem's agents and columns
-pub units_many : (p : ProblemValue) (x : ScaledValue) → IsMatrixFor p x → length x.units ≡ length p.agents * column_count p
-units_many p x h = h.shape ∙ ap (λ n. n * x.columns) h.agents ∙ ap (λ n. length p.agents * n) h.columns
+-- a table has one assignment
+one_assignment : (width : ℕ) (market : Market) (D : ℕ) (e : List ℕ) (x y : ScaledValue) → IsAssignmentOf width market D e x → IsAssignmentOf width market D e y → x ≡ y
+one_assignment width market D e x y h k =
+    same_matrix x y (h.denominator ∙ sym k.denominator) (h.agents ∙ sym k.agents) (h.columns ∙ sym k.columns)
+    (same_units (length market.agents) width x.units y.units (many x h) (many y k) (λ i a l m. unit x h i a l m ∙ sym (unit y k i a l m)))
+  where
+    many : (z : ScaledValue) → IsAssignmentOf width market D e z → length z.units ≡ length market.agents * width
+    many z g = g.shape ∙ ap (λ n. n * z.columns) g.agents ∙ ap (λ n. length market.agents * n) g.columns
 
-pub unit_is_share : (p : ProblemValue) (D : ℕ) (e : List ℕ) (x : ScaledValue) → IsMatrixFor p x → IsAssignmentOf (market_of p) D e x
-    → (i a : ℕ) → i < length p.agents → a < column_count p → unit_at (column_count p) x.units (cell_of i a) ≡ share (market_of p) D e i a
-unit_is_share p D e x h k i a l m =
-    ap (λ n. unit_at n x.units (cell_of i a)) (sym h.columns) ∙ k.units i a (subst (λ n. i < n) (sym h.agents) l) (subst (λ n. a < n) (sym h.columns) m)
+    unit : (z : ScaledValue) → IsAssignmentOf width market D e z → (i a : ℕ) → i < length market.agents → a < width → unit_at width z.units (cell_of i a) ≡ share market D e i a
+    unit z g i a l m =
+        ap (λ n. unit_at n z.units (cell_of i a)) (sym g.columns) ∙ g.units i a (subst (λ n. i < n) (sym g.agents) l) (subst (λ n. a < n) (sym g.columns) m)
 
 -- one table eats one value
 eaten_by_one : (p : ProblemValue) (e : List ℕ) (v w : EatenValue) → v.shares.denominator ≡ w.shares.denominator → IsEatenBy p e v → IsEatenBy p e w → v ≡ w
 eaten_by_one p e v w one h k =
-    same_value v w (h.moments ∙ sym k.moments) shares caps
-  where
-    agents : v.shares.agents ≡ w.shares.agents
-    agents = h.matrix.agents ∙ sym k.matrix.agents
-
-    columns : v.shares.columns ≡ w.shares.columns
-    columns = h.matrix.columns ∙ sym k.matrix.columns
-
-    units : v.shares.units ≡ w.shares.units
-    units =
-        same_units (length p.agents) (column_count p) v.shares.units w.shares.units (units_many p v.shares h.matrix) (units_many p w.shares k.matrix)
-        (λ i a l m. unit_is_share p v.shares.denominator e v.shares h.matrix h.shares i a l m ∙ ap (λ D. share (market_of p) D e i a) one
-        ∙ sym (unit_is_share p w.shares.denominator e w.shares k.matrix k.shares i a l m))
-
-    shares : v.shares ≡ w.shares
-    shares = same_matrix v.shares w.shares one agents columns units
-
-    caps : v.caps ≡ w.caps
-    caps = same_caps p v.shares.denominator e v.caps w.caps h.caps (subst (λ D. AreCaps p D e w.caps) (sym one) k.caps)
+    same_value v w (h.moments ∙ sym k.moments)
+    (one_assignment (column_count p) (market_of p) v.shares.denominator e v.shares w.shares h.shares
+    (subst (λ D. IsAssignmentOf (column_count p) (market_of p) D e w.shares) (sym one) k.shares))
+    (same_caps p v.shares.denominator e v.caps w.caps h.caps (subst (λ D. AreCaps p D e w.caps) (sym one) k.caps))
 
 -- what is eaten in a problem is one value
 pub one_eaten : (p : ProblemValue) (v w : EatenValue) → IsEaten p v → IsEaten p w → v ≡ w
@@ -97,11 +82,3 @@ eaten_not_too_fine p v D h k = not_too_fine (market_of p) v.shares.denominator D
 -- a problem has one first table that is too fine at most
 pub one_too_fine_at : (p : ProblemValue) (D D' : ℕ) → IsTooFineAt p D → IsTooFineAt p D' → D ≡ D'
 one_too_fine_at p D D' h k = (one_first (market_of p) D D' h.moment k.moment h.table k.table h.first k.first).0
-
--- where the sum of demands to the power of the number of limits is at most 2^116, no table is too fine
-pub few_limits_fit : (p : ProblemValue) (D : ℕ) → IsProblem p → demand_sum (market_of p) ^ length (limits_of p) ≤ 2 ^ 116 → IsTooFineAt p D → ⊥
-few_limits_fit p D h few k =
-    let bound = partial_bound (market_of p) D k.moment k.table k.table k.first.partial k.first.lowest (demands_some p h) (λ j l m. member_at nat_eq number_test k.table j 0 l) in
-    let many = ap (λ n. demand_sum (market_of p) ^ n) k.first.partial.size in
-    let above : 2 ^ 116 < D = k.first.above in
-    omega (arith, bound, many, few, above)

@@ -7,22 +7,22 @@ use Rattle.eating.specs.Seats.{IsSoFar, IsSeat}
 use Rattle.eating.proofs.Leasts.{least_none}
 
 -- the last place is open
-last_open : (U : ℕ) (e : List ℕ) (line : LineValue) (slots : ℕ) → IsLine slots line → least_of U e (holders_at line (length line.columns - 1)) ≡ U
-last_open U e line slots h = ap (least_of U e) h.last ∙ least_none U e
+last_open : (U : ℕ) (e : List ℕ) (line : LineValue) (limits : ℕ) → IsLine limits line → least_of U e (holders_at line (length line.columns - 1)) ≡ U
+last_open U e line limits h = ap (least_of U e) h.last ∙ least_none U e
 
 -- a place that isn't open isn't the last
-pub place_room : (U : ℕ) (e : List ℕ) (line : LineValue) (slots place : ℕ) → IsLine slots line → IsSoFar U e line place → least_of U e (holders_at line place) < U → place + 1 < length line.columns
-place_room U e line slots place h far less = elim (cases_lt (place + 1) (length line.columns)) [
+pub place_room : (U : ℕ) (e : List ℕ) (line : LineValue) (limits place : ℕ) → IsLine limits line → IsSoFar U e line place → least_of U e (holders_at line place) < U → place + 1 < length line.columns
+place_room U e line limits place h far less = elim (cases_lt (place + 1) (length line.columns)) [
   | inl k ↦ k
   | inr k ↦
       let inside : place < length line.columns = far.inside in
       let same : place ≡ length line.columns - 1 = omega arith in
-      absurd (let is = ap (λ k. least_of U e (holders_at line k)) same in omega (arith, less, is, last_open U e line slots h))
+      absurd (let is = ap (λ k. least_of U e (holders_at line k)) same in omega (arith, less, is, last_open U e line limits h))
 ]
 
-pub next_place : (U : ℕ) (e : List ℕ) (line : LineValue) (slots place : ℕ) → IsLine slots line → IsSoFar U e line place → least_of U e (holders_at line place) < U → IsSoFar U e line (place + 1)
-next_place U e line slots place h far less = record {
-  inside = place_room U e line slots place h far less;
+pub next_place : (U : ℕ) (e : List ℕ) (line : LineValue) (limits place : ℕ) → IsLine limits line → IsSoFar U e line place → least_of U e (holders_at line place) < U → IsSoFar U e line (place + 1)
+next_place U e line limits place h far less = record {
+  inside = place_room U e line limits place h far less;
   before = λ k l. elim (cases_lt k place) [
     | inl before ↦ far.before k before
     | inr at ↦ (let same : place ≡ k = omega arith in subst (λ n. least_of U e (holders_at line n) < U) same less)

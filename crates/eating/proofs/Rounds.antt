@@ -7,7 +7,7 @@ use Rattle.std.proofs.lemmas.Bool.{cases_lt, eq-eqb, ne_eqb}
 use Rattle.std.proofs.lemmas.List.{length-map, get_or-map}
 use Rattle.std.proofs.lemmas.List.FromFn.{length-range_with_len, get_or-range_with_len}
 use Rattle.definitions.specs.Values.{Market}
-use Rattle.definitions.specs.Eating.{eaten_by, slot_cells, slot_ceiling, IsLowestTerms, IsFirstTooFine}
+use Rattle.definitions.specs.Eating.{eaten_by, limit_cells, limit_ceiling, IsLowestTerms, IsFirstTooFine}
 use Rattle.eating_laws.proofs.Sums.{eaten_zero}
 use Rattle.eating_laws.proofs.Right.{IsRightBelow}
 use Rattle.frac128.specs.Lcm.{IsBeyond}
@@ -20,25 +20,25 @@ use Rattle.eating.proofs.Stepping.{step_too_fine}
 
 -- at moment 0 the limits with ceiling 0 are full, and nothing is eaten
 module _ (market : Market) (e r v e' r' : List ℕ) (size : length e ≡ length market.limits) (unit : (j : ℕ) → j < length e → slice_index e j ≡ 1)
-    (ceilings : (j : ℕ) → j < length market.limits → slice_index r j ≡ slot_ceiling market j) (slots : AreAdvanced 1 1 0 0 e r v e' r') where
-  first_left : (j : ℕ) → j < length e → slice_index r' j ≡ slot_ceiling market j
-  first_left j l = (let f = (slots.each j l).left (unit j l) in omega (arith, f, ceilings j (omega (arith, l, size))))
+    (ceilings : (j : ℕ) → j < length market.limits → slice_index r j ≡ limit_ceiling market j) (limits : AreAdvanced 1 1 0 0 e r v e' r') where
+  first_left : (j : ℕ) → j < length e → slice_index r' j ≡ limit_ceiling market j
+  first_left j l = (let f = (limits.each j l).left (unit j l) in omega (arith, f, ceilings j (omega (arith, l, size))))
 
-  first_cases : (j : ℕ) → j < length e → ((slice_index e' j ≡ 0) × (slot_ceiling market j ≡ 0)) ⊎ ((slice_index e' j ≡ 1) × (0 < slot_ceiling market j))
+  first_cases : (j : ℕ) → j < length e → ((slice_index e' j ≡ 0) × (limit_ceiling market j ≡ 0)) ⊎ ((slice_index e' j ≡ 1) × (0 < limit_ceiling market j))
   first_cases j l = elim (cases_lt 0 (slice_index r' j)) [
-    | inl some ↦ inr (let f = (slots.each j l).later (unit j l) some in omega (arith, f), omega (arith, some, first_left j l))
-    | inr none ↦ inl ((slots.each j l).now (unit j l) (omega arith), omega (arith, none, first_left j l))
+    | inl some ↦ inr (let f = (limits.each j l).later (unit j l) some in omega (arith, f), omega (arith, some, first_left j l))
+    | inr none ↦ inl ((limits.each j l).now (unit j l) (omega arith), omega (arith, none, first_left j l))
   ]
 
   pub first_right : IsRightBelow market 1 (0 + 1) e'
   first_right = record {
     positive = omega arith;
     reach = omega arith;
-    size = slots.many ∙ size;
-    said = λ j l. said (first_cases j (omega (arith, l, slots.many)));
+    size = limits.many ∙ size;
+    said = λ j l. said (first_cases j (omega (arith, l, limits.many)));
     right = λ t below. record {
-      later = λ j l k. later t below j (first_cases j (omega (arith, l, slots.many))) k;
-      now = λ j l k. now t below j (first_cases j (omega (arith, l, slots.many))) k;
+      later = λ j l k. later t below j (first_cases j (omega (arith, l, limits.many))) k;
+      now = λ j l k. now t below j (first_cases j (omega (arith, l, limits.many))) k;
     };
   }
     where
@@ -46,21 +46,21 @@ module _ (market : Market) (e r v e' r' : List ℕ) (size : length e ≡ length 
       said (inl (p, q)) = inl (omega arith)
       said (inr (p, q)) = inr p
 
-      none_yet : (t j : ℕ) → t < 0 + 1 → eaten_by market 1 e' (slot_cells market j) t ≡ 0
-      none_yet t j below = ap (λ n. eaten_by market 1 e' (slot_cells market j) n) (let z : t ≡ 0 = omega arith in z) ∙ eaten_zero market 1 e' (slot_cells market j)
+      none_yet : (t j : ℕ) → t < 0 + 1 → eaten_by market 1 e' (limit_cells market j) t ≡ 0
+      none_yet t j below = ap (λ n. eaten_by market 1 e' (limit_cells market j) n) (let z : t ≡ 0 = omega arith in z) ∙ eaten_zero market 1 e' (limit_cells market j)
 
-      later : (t : ℕ) → t < 0 + 1 → (j : ℕ) → ((slice_index e' j ≡ 0) × (slot_ceiling market j ≡ 0)) ⊎ ((slice_index e' j ≡ 1) × (0 < slot_ceiling market j)) → t < slice_index e' j
-          → eaten_by market 1 e' (slot_cells market j) t < slot_ceiling market j * 1
+      later : (t : ℕ) → t < 0 + 1 → (j : ℕ) → ((slice_index e' j ≡ 0) × (limit_ceiling market j ≡ 0)) ⊎ ((slice_index e' j ≡ 1) × (0 < limit_ceiling market j)) → t < slice_index e' j
+          → eaten_by market 1 e' (limit_cells market j) t < limit_ceiling market j * 1
       later t below j (inl (p, q)) k = absurd (omega arith)
       later t below j (inr (p, q)) k = omega (arith, none_yet t j below)
 
-      now : (t : ℕ) → t < 0 + 1 → (j : ℕ) → ((slice_index e' j ≡ 0) × (slot_ceiling market j ≡ 0)) ⊎ ((slice_index e' j ≡ 1) × (0 < slot_ceiling market j)) → slice_index e' j ≡ t
-          → eaten_by market 1 e' (slot_cells market j) t ≡ slot_ceiling market j * 1
+      now : (t : ℕ) → t < 0 + 1 → (j : ℕ) → ((slice_index e' j ≡ 0) × (limit_ceiling market j ≡ 0)) ⊎ ((slice_index e' j ≡ 1) × (0 < limit_ceiling market j)) → slice_index e' j ≡ t
+          → eaten_by market 1 e' (limit_cells market j) t ≡ limit_ceiling market j * 1
       now t below j (inl (p, q)) k = omega (arith, none_yet t j below)
       now t below j (inr (p, q)) k = absurd (omega arith)
 
-  pub first_rests : (j : ℕ) → j < length e' → slice_index e' j ≡ 1 → slice_index r' j + eaten_by market 1 e' (slot_cells market j) 0 ≡ slot_ceiling market j * 1
-  first_rests j l o = omega (arith, first_left j (omega (arith, l, slots.many)), eaten_zero market 1 e' (slot_cells market j))
+  pub first_rests : (j : ℕ) → j < length e' → slice_index e' j ≡ 1 → slice_index r' j + eaten_by market 1 e' (limit_cells market j) 0 ≡ limit_ceiling market j * 1
+  first_rests j l o = omega (arith, first_left j (omega (arith, l, limits.many)), eaten_zero market 1 e' (limit_cells market j))
 
 -- over 1 each table is in lowest terms
 pub first_lowest : (e : List ℕ) → IsLowestTerms 1 e
@@ -113,11 +113,11 @@ beyond_too_fine market U u e r v ready lowest fine speeds m next lcm beyond =
     let s = numerator m * w - c * u in
     let after : c * u ≤ numerator m * w = moment_after U u e r v positive m next U' least c w one two in
     let sum : c * u + s ≡ numerator m * w = omega arith in
-    let slots = made_advanced U c s (c * u + s) e r v (slow U u e r v positive m next U' least c w one two s sum) in
+    let limits = made_advanced U c s (c * u + s) e r v (slow U u e r v positive m next U' least c w one two s sum) in
     let above : 2 ^ 116 < c * U = (let a = beyond.above in omega (arith, a, one)) in
-    let first = step_too_fine market U u e r v ready lowest m next U' least c w s one two sum (made_moments U c s (c * u + s) e r v) (made_rests U c s (c * u + s) e r v) slots fine above in
-    let within : U' ≤ U * slice_index v next.slot = new_within U u e r v positive m next U' least in
-    let many : U * slice_index v next.slot ≤ U * 1000 = mul-le-mul_left U (speeds next.slot) in
+    let first = step_too_fine market U u e r v ready lowest m next U' least c w s one two sum (made_moments U c s (c * u + s) e r v) (made_rests U c s (c * u + s) e r v) limits fine above in
+    let within : U' ≤ U * slice_index v next.limit = new_within U u e r v positive m next U' least in
+    let many : U * slice_index v next.limit ≤ U * 1000 = mul-le-mul_left U (speeds next.limit) in
     let small : U' < 2 ^ 126 = omega arith in
     let same : c * U ≡ lcm = (let held = beyond.held in omega arith) in
     record {

@@ -158,7 +158,7 @@ pub list_within : (columns : ℕ) (market : Market) (i : ℕ) (w : Agent) (line 
 list_within columns market i w line e h inside = subst (λ list. All (λ a. a < columns) list) h.is_line.columns inside
 
 -- one demand isn't above all
-pub line_demand : (lines : List LineValue) (i : ℕ) (line : LineValue) (slots : ℕ) → AreLines slots lines → slice_get lines i ≡ Some line → line.demand ≤ 1000
-line_demand lines i line slots h is =
+pub line_demand : (lines : List LineValue) (i : ℕ) (line : LineValue) (limits : ℕ) → AreLines limits lines → slice_get lines i ≡ Some line → line.demand ≤ 1000
+line_demand lines i line limits h is =
     let one = get_or-le-sum_by (λ (l : LineValue). l.demand) lines i line (slice_get_within lines i line is) in
     omega (arith, one, h.demands, ap (λ (l : LineValue). l.demand) (get_or_from_slice_get lines i line line is))

@@ -8,7 +8,7 @@ use Rattle.std.proofs.lemmas.Option.{slice_get-get_or}
 use Rattle.std.proofs.lemmas.List.{get_or_past, take_all, length-replicate, get_or-replicate}
 use Rattle.std.proofs.lemmas.List.Sums.{sum_by-cons}
 use Rattle.definitions.specs.Values.{Limit, Market}
-use Rattle.definitions.specs.Eating.{eaten_by, moment_at, slot_cells, slot_ceiling, IsEatingTable, IsLowestTerms}
+use Rattle.definitions.specs.Eating.{eaten_by, moment_at, limit_cells, limit_ceiling, IsEatingTable, IsLowestTerms}
 use Rattle.eating_laws.proofs.Right.{IsRightBelow}
 use Rattle.eating_laws.proofs.Holders.{least_of}
 use Rattle.eating.specs.declared.progress.Progress.{Progress}
@@ -20,14 +20,14 @@ use Rattle.eating.proofs.Between.{end_table}
 use Rattle.eating.proofs.Seating.{seats_speed, seat_bound}
 
 -- no ceiling is above 1,000
-pub slot_small : (market : Market) (j : ℕ) → IsSmall market → j < length market.limits → slot_ceiling market j ≤ 1000
-slot_small market j h l =
+pub limit_small : (market : Market) (j : ℕ) → IsSmall market → j < length market.limits → limit_ceiling market j ≤ 1000
+limit_small market j h l =
     let d : Limit = record { ceiling = 0; cells = [] } in
     subst (λ (o : Option Limit). option_map_or (λ (s : Limit). s.ceiling) o 0 ≤ 1000) (sym (slice_get-get_or market.limits j d l)) (h.ceilings j d l)
 
 -- no speed is above 1,000
-speeds_small : (lines : List LineValue) (places : List ℕ) (slots j : ℕ) → AreLines slots lines → seat_speed lines places j ≤ 1000
-speeds_small lines places slots j h =
+speeds_small : (lines : List LineValue) (places : List ℕ) (limits j : ℕ) → AreLines limits lines → seat_speed lines places j ≤ 1000
+speeds_small lines places limits j h =
     let k = length lines + length places in
     let bound = seat_bound lines places k j (λ i line e q. (h.each i line e).once q j) in
     let is = ap (λ xs. seat_speed xs (take k places) j) (take_all k lines (omega arith)) ∙ ap (λ ys. seat_speed lines ys j) (take_all k places (omega arith)) in
@@ -42,8 +42,8 @@ module _ (market : Market) (lines : List LineValue) (are : AreLinesOf market lin
     many_speeds = h.many_speeds;
     within = λ j. within j;
     rest_within = λ j l o. (let left = h.ready.left j l o in
-        let few : slot_ceiling market j * s.unit ≤ 1000 * s.unit = mul-le-mul_right s.unit (slot_small market j small (omega (arith, l, h.ready.right.size))) in omega (arith, left, few));
-    speed_within = λ j. (let one = speeds_small lines s.places.items (length market.limits) j are.slots in omega (arith, one, h.speeds j));
+        let few : limit_ceiling market j * s.unit ≤ 1000 * s.unit = mul-le-mul_right s.unit (limit_small market j small (omega (arith, l, h.ready.right.size))) in omega (arith, left, few));
+    speed_within = λ j. (let one = speeds_small lines s.places.items (length market.limits) j are.limits in omega (arith, one, h.speeds j));
   }
     where
       within : (j : ℕ) → slice_index s.moments.items j ≤ s.unit
@@ -58,7 +58,7 @@ module _ (market : Market) (lines : List LineValue) (are : AreLinesOf market lin
 
   -- the state once the agents are seated
   pub seated : (s : Progress) → IsRightBelow market s.unit (s.at + 1) s.moments.items
-      → ((j : ℕ) → j < length s.moments.items → moment_at s.moments.items j ≡ s.unit → slice_index s.rests.items j + eaten_by market s.unit s.moments.items (slot_cells market j) s.at ≡ slot_ceiling market j * s.unit)
+      → ((j : ℕ) → j < length s.moments.items → moment_at s.moments.items j ≡ s.unit → slice_index s.rests.items j + eaten_by market s.unit s.moments.items (limit_cells market j) s.at ≡ limit_ceiling market j * s.unit)
       → IsLowestTerms s.unit s.moments.items → s.unit ≤ 2 ^ 116 → length s.rests.items ≡ length s.moments.items → length s.speeds.items ≡ length s.moments.items
       → AreSeats s.unit s.moments.items lines s.places.items → ((j : ℕ) → slice_index s.speeds.items j ≡ seat_speed lines s.places.items j) → IsAt market lines s
   seated s right left lowest fine many_rests many_speeds seats speeds = record {
@@ -103,14 +103,14 @@ full_stays U c e e' (x ∷ holders) p h less = elim (cases_lt (get_or e x 0) U) 
 ]
 
 -- after a step each agent's place is still one before which no place is open
-pub so_far_after : (U f s at slots : ℕ) (e r v e' r' : List ℕ) (lines : List LineValue) (places : List ℕ) → 0 < f → length e ≡ slots → AreLines slots lines → AreAdvanced U f s at e r v e' r'
+pub so_far_after : (U f s at limits : ℕ) (e r v e' r' : List ℕ) (lines : List LineValue) (places : List ℕ) → 0 < f → length e ≡ limits → AreLines limits lines → AreAdvanced U f s at e r v e' r'
     → AreSoFar U e lines places → AreSoFar (f * U) e' lines places
-so_far_after U f s at slots e r v e' r' lines places p size are slots_after far = record {
+so_far_after U f s at limits e r v e' r' lines places p size are limits_after far = record {
   many = far.many;
   each = λ i line h. record {
     inside = (far.each i line h).inside;
     before = λ k l. full_stays U f e e' (holders_at line k) p
-        (λ q m apart. (slots_after.each (get_or (holders_at line k) q 0) (let w = (are.each i line h).inside k q 0 m in omega (arith, w, size))).full apart)
+        (λ q m apart. (limits_after.each (get_or (holders_at line k) q 0) (let w = (are.each i line h).inside k q 0 m in omega (arith, w, size))).full apart)
         ((far.each i line h).before k l);
   };
 }
@@ -119,8 +119,8 @@ pub seats_so_far : (U : ℕ) (e : List ℕ) (lines : List LineValue) (places : L
 seats_so_far U e lines places h = record { many = h.many; each = λ i line e. (h.each i line e).so_far }
 
 -- in the beginning each agent is at its first place
-pub first_so_far : (U slots agents : ℕ) (e : List ℕ) (lines : List LineValue) (places : List ℕ) → AreLines slots lines → length lines ≡ agents → places ≡ replicate agents 0 → AreSoFar U e lines places
-first_so_far U slots agents e lines places are many is = record {
+pub first_so_far : (U limits agents : ℕ) (e : List ℕ) (lines : List LineValue) (places : List ℕ) → AreLines limits lines → length lines ≡ agents → places ≡ replicate agents 0 → AreSoFar U e lines places
+first_so_far U limits agents e lines places are many is = record {
   many = ap length is ∙ length-replicate agents 0 ∙ sym many;
   each = λ i line h. (let zero_is : slice_index places i ≡ 0 = at i in record {
     inside = (let some = (are.each i line h).some in omega (arith, zero_is, some));
@@ -146,16 +146,16 @@ open_le U U' (x ∷ e) (y ∷ e') many h =
     bit (inl e) = (let on = ap {B = ℕ} (λ b. cond b 1 0) (eq-eqb x U (h 0 (omega arith) (eqb-true y U' e))) in let off = ap {B = ℕ} (λ b. cond b 1 0) e in omega (arith, on, off))
     bit (inr e) = (let off = ap {B = ℕ} (λ b. cond b 1 0) e in omega (arith, off))
 
-pub open_falls : (U U' slot : ℕ) (e e' : List ℕ) → length e' ≡ length e → slot < length e → ((j : ℕ) → j < length e → get_or e' j 0 ≡ U' → get_or e j 0 ≡ U)
-    → get_or e slot 0 ≡ U → get_or e' slot 0 ≢ U' → count_by (λ m. m == U') e' < count_by (λ m. m == U) e
-open_falls U U' slot [] e' many l h is apart = absurd (omega arith)
-open_falls U U' slot (x ∷ e) [] many l h is apart = absurd (omega arith)
+pub open_falls : (U U' limit : ℕ) (e e' : List ℕ) → length e' ≡ length e → limit < length e → ((j : ℕ) → j < length e → get_or e' j 0 ≡ U' → get_or e j 0 ≡ U)
+    → get_or e limit 0 ≡ U → get_or e' limit 0 ≢ U' → count_by (λ m. m == U') e' < count_by (λ m. m == U) e
+open_falls U U' limit [] e' many l h is apart = absurd (omega arith)
+open_falls U U' limit (x ∷ e) [] many l h is apart = absurd (omega arith)
 open_falls U U' zero (x ∷ e) (y ∷ e') many l h is apart =
     let on = ap {B = ℕ} (λ b. cond b 1 0) (eq-eqb x U is) in
     let off = ap {B = ℕ} (λ b. cond b 1 0) (ne_eqb y U' apart) in
     omega (arith, sum_by-cons (λ m. cond (m == U') 1 0) y e', sum_by-cons (λ m. cond (m == U) 1 0) x e, on, off, open_le U U' e e' (omega arith) (λ j l k. h (suc j) (omega arith) k))
-open_falls U U' (suc slot) (x ∷ e) (y ∷ e') many l h is apart =
-    omega (arith, sum_by-cons (λ m. cond (m == U') 1 0) y e', sum_by-cons (λ m. cond (m == U) 1 0) x e, open_falls U U' slot e e' (omega arith) (omega arith) (λ j l k. h (suc j) (omega arith) k) is apart, bit (cases_Bool (y == U')))
+open_falls U U' (suc limit) (x ∷ e) (y ∷ e') many l h is apart =
+    omega (arith, sum_by-cons (λ m. cond (m == U') 1 0) y e', sum_by-cons (λ m. cond (m == U) 1 0) x e, open_falls U U' limit e e' (omega arith) (omega arith) (λ j l k. h (suc j) (omega arith) k) is apart, bit (cases_Bool (y == U')))
   where
     bit : ((y == U') ≡ true) ⊎ ((y == U') ≡ false) → cond {A = ℕ} (y == U') 1 0 ≤ cond {A = ℕ} (x == U) 1 0
     bit (inl e) = (let on = ap {B = ℕ} (λ b. cond b 1 0) (eq-eqb x U (h 0 (omega arith) (eqb-true y U' e))) in let off = ap {B = ℕ} (λ b. cond b 1 0) e in omega (arith, on, off))

@@ -8,7 +8,7 @@ use Rattle.std.proofs.lemmas.Option.{same_Some}
 use Rattle.std.proofs.lemmas.List.Sums.{sum_by-cons, sum_by_more, sum_by_more_le}
 use Rattle.definitions.specs.Sets.{cell_of, holds}
 use Rattle.definitions.specs.Values.{Agent, Market}
-use Rattle.definitions.specs.Eating.{full_at, moment_at, slot_cells}
+use Rattle.definitions.specs.Eating.{full_at, moment_at, limit_cells}
 use Rattle.eating_laws.proofs.Line.{rate, rate_at}
 use Rattle.eating_laws.proofs.Sums.{speed_from, speed_of}
 use Rattle.eating_laws.proofs.Holders.{IsHolders, least_of, least_le, full_holders}
@@ -98,11 +98,11 @@ module _ (market : Market) (U u : ℕ) (e : List ℕ) (size : length e ≡ lengt
   module _ (j : ℕ) (known : j < length market.limits) where
     -- one agent's part
     seat_rate : (i : ℕ) (w : Agent) (line : LineValue) (place : ℕ) → IsLineOf market i w line → IsSeat U e line place
-        → rate w.demand (full_at U market.limits e i) (λ a. holds (slot_cells market j) (cell_of i a)) u w.list ≡ line.demand * count_by (λ h. h == j) (holders_at line place)
+        → rate w.demand (full_at U market.limits e i) (λ a. holds (limit_cells market j) (cell_of i a)) u w.list ≡ line.demand * count_by (λ h. h == j) (holders_at line place)
     seat_rate i w line place is_line seat =
-        rate_at w.demand (full_at U market.limits e i) (λ a. holds (slot_cells market j) (cell_of i a)) u place w.list inside before here
-        ∙ bit (holds (slot_cells market j) (cell_of i (slice_index w.list place)))
-        ∙ ap (λ n. w.demand * n) (ap {B = ℕ} (λ a. cond (holds (slot_cells market j) (cell_of i a)) 1 0) (sym (same_column place)) ∙ sym (once.once j known))
+        rate_at w.demand (full_at U market.limits e i) (λ a. holds (limit_cells market j) (cell_of i a)) u place w.list inside before here
+        ∙ bit (holds (limit_cells market j) (cell_of i (slice_index w.list place)))
+        ∙ ap (λ n. w.demand * n) (ap {B = ℕ} (λ a. cond (holds (limit_cells market j) (cell_of i a)) 1 0) (sym (same_column place)) ∙ sym (once.once j known))
         ∙ ap (λ n. n * count_by (λ h. h == j) (holders_at line place)) (sym is_line.demand)
       where
         inside_line : place < length line.columns
@@ -136,7 +136,7 @@ module _ (market : Market) (U u : ℕ) (e : List ℕ) (size : length e ≡ lengt
     seats_from : (i : ℕ) (agents : List Agent) (lines : List LineValue) (places : List ℕ) → length lines ≡ length agents → length places ≡ length lines
         → ((k : ℕ) (w : Agent) (line : LineValue) → slice_get agents k ≡ Some w → slice_get lines k ≡ Some line → IsLineOf market (i + k) w line)
         → ((k : ℕ) (line : LineValue) → slice_get lines k ≡ Some line → IsSeat U e line (slice_index places k))
-        → seat_speed lines places j ≡ speed_from U market.limits e (slot_cells market j) u i agents
+        → seat_speed lines places j ≡ speed_from U market.limits e (limit_cells market j) u i agents
     unfolding seat_speed speed_from
     seats_from i [] [] places many many' are seats = refl
     seats_from i [] (line ∷ lines) places many many' are seats = absurd (omega arith)
@@ -149,7 +149,7 @@ module _ (market : Market) (U u : ℕ) (e : List ℕ) (size : length e ≡ lengt
         (λ k v l a b. subst (λ n. IsLineOf market n v l) (let z : i + suc k ≡ i + 1 + k = omega arith in z) (are (suc k) v l a b)) (λ k l a. seats (suc k) l a) in
         omega (arith, head, rest)
 
-    pub seats_speed : (lines : List LineValue) (places : List ℕ) → AreLinesOf market lines → AreSeats U e lines places → seat_speed lines places j ≡ speed_of market U e u (slot_cells market j)
+    pub seats_speed : (lines : List LineValue) (places : List ℕ) → AreLinesOf market lines → AreSeats U e lines places → seat_speed lines places j ≡ speed_of market U e u (limit_cells market j)
     seats_speed lines places are seats =
         seats_from 0 market.agents lines places are.many seats.many (λ k w line a b. subst (λ n. IsLineOf market n w line) (let z : k ≡ 0 + k = omega arith in z) (are.each k w line a b)) seats.each
 
@@ -161,9 +161,9 @@ seat_added lines places k j line place is l =
     ∙ ap (λ ys. seat_speed (take k lines) ys j + line.demand * count_by (λ h. h == j) (holders_at line (get_or (set places k place) k 0))) (take-set places k place)
     ∙ ap (λ q. seat_speed (take k lines) (take k places) j + line.demand * count_by (λ h. h == j) (holders_at line q)) (get_or-set_same places k place 0 l)
 
-pub seat_room : (lines : List LineValue) (places : List ℕ) (k j : ℕ) (line : LineValue) (place slots : ℕ) → AreLines slots lines → slice_get lines k ≡ Some line → k < length places
+pub seat_room : (lines : List LineValue) (places : List ℕ) (k j : ℕ) (line : LineValue) (place limits : ℕ) → AreLines limits lines → slice_get lines k ≡ Some line → k < length places
     → seat_speed (take k lines) (take k places) j + line.demand * count_by (λ h. h == j) (holders_at line place) ≤ 1000
-seat_room lines places k j line place slots are is l =
+seat_room lines places k j line place limits are is l =
     let bound = seat_bound lines (set places k place) (k + 1) j (λ i x e q. (are.each i x e).once q j) in
     omega (arith, bound, seat_added lines places k j line place is l, are.demands)
 

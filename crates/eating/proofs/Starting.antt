@@ -7,11 +7,11 @@ use Rattle.std.proofs.lemmas.Bool.{cases_lt}
 use Rattle.std.proofs.lemmas.Option.{slice_get-get_or}
 use Rattle.std.proofs.lemmas.List.{get_or-map, get_or-replicate, get_or_past, length-replicate, take_at}
 use Rattle.definitions.specs.Values.{Limit, Market}
-use Rattle.definitions.specs.Eating.{slot_ceiling}
+use Rattle.definitions.specs.Eating.{limit_ceiling}
 use Rattle.eating_laws.proofs.Fine.{below_from_product}
 
--- the ceilings in a list are those of the slots
-pub ceiling_read : (market : Market) (j : ℕ) → j < length market.limits → get_or (map (λ (s : Limit). s.ceiling) market.limits) j 0 ≡ slot_ceiling market j
+-- the ceilings in a list are those of the limits
+pub ceiling_read : (market : Market) (j : ℕ) → j < length market.limits → get_or (map (λ (s : Limit). s.ceiling) market.limits) j 0 ≡ limit_ceiling market j
 ceiling_read market j l =
     let d : Limit = record { ceiling = 0; cells = [] } in
     get_or-map (λ (s : Limit). s.ceiling) market.limits j d 0 l ∙ sym (ap (λ (o : Option Limit). option_map_or (λ (s : Limit). s.ceiling) o 0) (slice_get-get_or market.limits j d l))

@@ -5,7 +5,7 @@ use Rattle.std.proofs.Math.Nat.{mul-div_cancel', eq_of_mul-eq-mul_right, mul-lt-
 use Rattle.std.proofs.lemmas.Bool.{cases_lt}
 use Rattle.std.proofs.lemmas.List.{length-replicate, get_or-replicate, get_or_past}
 use Rattle.definitions.specs.Values.{Market}
-use Rattle.definitions.specs.Eating.{eaten_by, moment_at, slot_cells, slot_ceiling, IsLowestTerms}
+use Rattle.definitions.specs.Eating.{eaten_by, moment_at, limit_cells, limit_ceiling, IsLowestTerms}
 use Rattle.eating_laws.proofs.Right.{IsRightBelow}
 use Rattle.frac128.specs.Lcm.{IsBeyond}
 use Rattle.frac128.specs.Fraction.{numerator, denominator}
@@ -16,13 +16,13 @@ use Rattle.eating.specs.Seats.{AreSoFar, AreSeats}
 use Rattle.eating.specs.Steps.{AreAdvanced, IsEarliest, IsWithin}
 use Rattle.eating.specs.Runs.{IsAt, IsRunOf, IsSeated, IsStepTo, IsTooFineIn}
 use Rattle.eating.proofs.Stepping.{step_right, step_left, step_lowest, step_full}
-use Rattle.eating.proofs.Running.{slot_small, at_within, seated, so_far_after, seats_so_far, first_so_far, open_falls}
+use Rattle.eating.proofs.Running.{limit_small, at_within, seated, so_far_after, seats_so_far, first_so_far, open_falls}
 use Rattle.eating.proofs.Rounds.{first_right, first_rests, first_lowest, beyond_too_fine}
 
 -- the state over other names of the same numbers and lists
 moved : (market : Market) (lines : List LineValue) (are : AreLinesOf market lines) (small : IsSmall market) (mid new : Progress) → IsSeated lines mid new
     → (D n : ℕ) → mid.unit ≡ D → mid.at ≡ n → IsRightBelow market D (n + 1) mid.moments.items
-    → ((j : ℕ) → j < length mid.moments.items → moment_at mid.moments.items j ≡ D → slice_index mid.rests.items j + eaten_by market D mid.moments.items (slot_cells market j) n ≡ slot_ceiling market j * D)
+    → ((j : ℕ) → j < length mid.moments.items → moment_at mid.moments.items j ≡ D → slice_index mid.rests.items j + eaten_by market D mid.moments.items (limit_cells market j) n ≡ limit_ceiling market j * D)
     → IsLowestTerms D mid.moments.items → D ≤ 2 ^ 116 → length mid.rests.items ≡ length mid.moments.items → IsAt market lines new
 moved market lines are small mid new s D n unit at right left lowest fine many =
     seated market lines are small new (right_at new.unit new.at new.moments.items (s.unit ∙ unit) (s.at ∙ at) s.moments)
@@ -35,12 +35,12 @@ moved market lines are small mid new s D n unit at right left lowest fine many =
     right_at d m e p q t = subst (λ x. IsRightBelow market x (m + 1) e) (sym p) (subst (λ x. IsRightBelow market D (x + 1) e) (sym q) (subst (λ x. IsRightBelow market D (n + 1) x) (sym t) right))
 
     left_at : (d m : ℕ) (e r : List ℕ) → d ≡ D → m ≡ n → e ≡ mid.moments.items → r ≡ mid.rests.items
-        → (j : ℕ) → j < length e → moment_at e j ≡ d → slice_index r j + eaten_by market d e (slot_cells market j) m ≡ slot_ceiling market j * d
+        → (j : ℕ) → j < length e → moment_at e j ≡ d → slice_index r j + eaten_by market d e (limit_cells market j) m ≡ limit_ceiling market j * d
     left_at d m e r p q t u =
-        subst (λ x. (j : ℕ) → j < length e → moment_at e j ≡ x → slice_index r j + eaten_by market x e (slot_cells market j) m ≡ slot_ceiling market j * x) (sym p)
-        (subst (λ x. (j : ℕ) → j < length e → moment_at e j ≡ D → slice_index r j + eaten_by market D e (slot_cells market j) x ≡ slot_ceiling market j * D) (sym q)
-        (subst (λ x. (j : ℕ) → j < length x → moment_at x j ≡ D → slice_index r j + eaten_by market D x (slot_cells market j) n ≡ slot_ceiling market j * D) (sym t)
-        (subst (λ x. (j : ℕ) → j < length mid.moments.items → moment_at mid.moments.items j ≡ D → slice_index x j + eaten_by market D mid.moments.items (slot_cells market j) n ≡ slot_ceiling market j * D) (sym u) left)))
+        subst (λ x. (j : ℕ) → j < length e → moment_at e j ≡ x → slice_index r j + eaten_by market x e (limit_cells market j) m ≡ limit_ceiling market j * x) (sym p)
+        (subst (λ x. (j : ℕ) → j < length e → moment_at e j ≡ D → slice_index r j + eaten_by market D e (limit_cells market j) x ≡ limit_ceiling market j * D) (sym q)
+        (subst (λ x. (j : ℕ) → j < length x → moment_at x j ≡ D → slice_index r j + eaten_by market D x (limit_cells market j) n ≡ limit_ceiling market j * D) (sym t)
+        (subst (λ x. (j : ℕ) → j < length mid.moments.items → moment_at mid.moments.items j ≡ D → slice_index x j + eaten_by market D mid.moments.items (limit_cells market j) n ≡ limit_ceiling market j * D) (sym u) left)))
 
 module _ (market : Market) (lines : List LineValue) where
   -- the first step needs little
@@ -52,7 +52,7 @@ module _ (market : Market) (lines : List LineValue) where
     many_speeds = ap length h.start.speeds ∙ length-replicate (length market.limits) 0 ∙ sym many;
     within = λ j. (let one = unit_at j in omega (arith, one, h.start.unit));
     rest_within = λ j l o. (let inside : j < length market.limits = omega (arith, l, many) in
-        let few = slot_small market j h.small inside in omega (arith, few, h.start.rests j inside, h.start.unit));
+        let few = limit_small market j h.small inside in omega (arith, few, h.start.rests j inside, h.start.unit));
     speed_within = λ j. (let none = zero_at j in omega (arith, none));
   }
     where
@@ -72,12 +72,12 @@ module _ (market : Market) (lines : List LineValue) where
       ]
 
   pub start_so_far : (s mid : Progress) → IsRunOf market lines s → mid.places.items ≡ s.places.items → AreSoFar mid.unit mid.moments.items lines mid.places.items
-  start_so_far s mid h same = first_so_far mid.unit (length market.limits) (length lines) mid.moments.items lines mid.places.items h.lines_of.slots (omega arith) (same ∙ h.start.places)
+  start_so_far s mid h same = first_so_far mid.unit (length market.limits) (length lines) mid.moments.items lines mid.places.items h.lines_of.limits (omega arith) (same ∙ h.start.places)
 
   -- the state at moment 0
   pub start_at : (s mid new : Progress) → IsRunOf market lines s → mid.unit ≡ 1 * s.unit → mid.at ≡ 1 * s.at + 0
       → AreAdvanced s.unit 1 0 (1 * s.at + 0) s.moments.items s.rests.items s.speeds.items mid.moments.items mid.rests.items → IsSeated lines mid new → IsAt market lines new
-  start_at s mid new h unit at slots seats =
+  start_at s mid new h unit at limits seats =
       moved market lines h.lines_of h.small mid new seats 1 0 (omega (arith, unit, h.start.unit)) (omega (arith, at, h.start.at))
       (first_right market s.moments.items s.rests.items s.speeds.items mid.moments.items mid.rests.items many one h.start.rests first)
       (first_rests market s.moments.items s.rests.items s.speeds.items mid.moments.items mid.rests.items many one h.start.rests first)
@@ -92,7 +92,7 @@ module _ (market : Market) (lines : List LineValue) where
       first : AreAdvanced 1 1 0 0 s.moments.items s.rests.items s.speeds.items mid.moments.items mid.rests.items
       first =
           subst (λ n. AreAdvanced 1 1 0 n s.moments.items s.rests.items s.speeds.items mid.moments.items mid.rests.items) (omega (arith, h.start.at))
-          (subst (λ d. AreAdvanced d 1 0 (1 * s.at + 0) s.moments.items s.rests.items s.speeds.items mid.moments.items mid.rests.items) h.start.unit slots)
+          (subst (λ d. AreAdvanced d 1 0 (1 * s.at + 0) s.moments.items s.rests.items s.speeds.items mid.moments.items mid.rests.items) h.start.unit limits)
 
   module _ (old mid : Progress) (m : Fraction) (h : IsAt market lines old) (next : IsEarliest old.unit old.at (length old.moments.items) old.moments.items old.rests.items old.speeds.items m)
       (step : IsStepTo old mid m) where
@@ -112,16 +112,16 @@ module _ (market : Market) (lines : List LineValue) where
     pub next_at : AreLinesOf market lines → IsSmall market → (new : Progress) → IsSeated lines mid new → IsAt market lines new
     next_at are small new seats =
         moved market lines are small mid new seats (step.factor * old.unit) (step.factor * old.at + step.step) step.unit step.at
-        (step_right market old.unit old.at old.moments.items old.rests.items old.speeds.items h.ready h.lowest m next mid.unit step.least step.factor (mid.unit / denominator m) step.step one two sum mid.moments.items mid.rests.items step.slots)
-        (step_left market old.unit old.at old.moments.items old.rests.items old.speeds.items h.ready h.lowest m next mid.unit step.least step.factor (mid.unit / denominator m) step.step one two sum mid.moments.items mid.rests.items step.slots)
-        (step_lowest market old.unit old.at old.moments.items old.rests.items old.speeds.items h.ready h.lowest m next mid.unit step.least step.factor (mid.unit / denominator m) step.step one two sum mid.moments.items mid.rests.items step.slots)
-        (omega (arith, step.fine, one)) (step.slots.many_rests ∙ sym step.slots.many)
+        (step_right market old.unit old.at old.moments.items old.rests.items old.speeds.items h.ready h.lowest m next mid.unit step.least step.factor (mid.unit / denominator m) step.step one two sum mid.moments.items mid.rests.items step.limits)
+        (step_left market old.unit old.at old.moments.items old.rests.items old.speeds.items h.ready h.lowest m next mid.unit step.least step.factor (mid.unit / denominator m) step.step one two sum mid.moments.items mid.rests.items step.limits)
+        (step_lowest market old.unit old.at old.moments.items old.rests.items old.speeds.items h.ready h.lowest m next mid.unit step.least step.factor (mid.unit / denominator m) step.step one two sum mid.moments.items mid.rests.items step.limits)
+        (omega (arith, step.fine, one)) (step.limits.many_rests ∙ sym step.limits.many)
 
     pub next_so_far : AreLinesOf market lines → AreSoFar mid.unit mid.moments.items lines mid.places.items
     next_so_far are =
         subst (λ d. AreSoFar d mid.moments.items lines mid.places.items) one
         (subst (λ places. AreSoFar (step.factor * old.unit) mid.moments.items lines places) (sym step.places)
-        (so_far_after old.unit step.factor step.step (step.factor * old.at + step.step) (length market.limits) old.moments.items old.rests.items old.speeds.items mid.moments.items mid.rests.items lines old.places.items step.positive h.ready.right.size are.slots step.slots
+        (so_far_after old.unit step.factor step.step (step.factor * old.at + step.step) (length market.limits) old.moments.items old.rests.items old.speeds.items mid.moments.items mid.rests.items lines old.places.items step.positive h.ready.right.size are.limits step.limits
         (seats_so_far old.unit old.moments.items lines old.places.items h.seats)))
 
     -- fewer limits are open then
@@ -129,9 +129,9 @@ module _ (market : Market) (lines : List LineValue) where
     next_fewer new seats =
         subst (λ e. count_by (λ x. x == new.unit) e < count_by (λ x. x == old.unit) old.moments.items) (sym seats.moments)
         (subst (λ d. count_by (λ x. x == d) mid.moments.items < count_by (λ x. x == old.unit) old.moments.items) (sym (seats.unit ∙ step.unit))
-        (open_falls old.unit (step.factor * old.unit) next.slot old.moments.items mid.moments.items step.slots.many next.known was_open next.is_open
-        (λ e. (let full = step_full market old.unit old.at old.moments.items old.rests.items old.speeds.items h.ready h.lowest m next mid.unit step.least step.factor (mid.unit / denominator m) step.step one two sum mid.moments.items mid.rests.items step.slots in
-        let right = step_right market old.unit old.at old.moments.items old.rests.items old.speeds.items h.ready h.lowest m next mid.unit step.least step.factor (mid.unit / denominator m) step.step one two sum mid.moments.items mid.rests.items step.slots in
+        (open_falls old.unit (step.factor * old.unit) next.limit old.moments.items mid.moments.items step.limits.many next.known was_open next.is_open
+        (λ e. (let full = step_full market old.unit old.at old.moments.items old.rests.items old.speeds.items h.ready h.lowest m next mid.unit step.least step.factor (mid.unit / denominator m) step.step one two sum mid.moments.items mid.rests.items step.limits in
+        let right = step_right market old.unit old.at old.moments.items old.rests.items old.speeds.items h.ready h.lowest m next mid.unit step.least step.factor (mid.unit / denominator m) step.step one two sum mid.moments.items mid.rests.items step.limits in
         let reach : step.factor * old.at + step.step + 1 ≤ step.factor * old.unit = right.reach in
         omega (arith, full, e, reach)))))
       where
@@ -139,7 +139,7 @@ module _ (market : Market) (lines : List LineValue) where
         was_open j l e = elim (h.ready.right.said j l) [
           | inl early ↦
               let below : get_or old.moments.items j 0 < old.unit = (let r : old.at + 1 ≤ old.unit = h.ready.right.reach in omega arith) in
-              let full = (step.slots.each j l).full (λ same. omega arith) in
+              let full = (step.limits.each j l).full (λ same. omega arith) in
               let less : step.factor * get_or old.moments.items j 0 < step.factor * old.unit = mul-lt-mul_of_pos_left below step.positive in
               absurd (omega (arith, full, less, e))
           | inr same ↦ same

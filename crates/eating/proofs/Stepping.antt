@@ -6,7 +6,7 @@ use Rattle.std.proofs.Math.Nat.{mul_left_comm, eq_of_mul-eq-mul_left, mul-div_ca
 use Rattle.std.proofs.lemmas.Bool.{cases_lt, cases_order}
 use Rattle.std.proofs.lemmas.List.{get_or_past, length-map}
 use Rattle.definitions.specs.Values.{Market}
-use Rattle.definitions.specs.Eating.{eaten_by, moment_at, slot_cells, slot_ceiling, IsLowestTerms, IsPartialTable, IsFirstTooFine}
+use Rattle.definitions.specs.Eating.{eaten_by, moment_at, limit_cells, limit_ceiling, IsLowestTerms, IsPartialTable, IsFirstTooFine}
 use Rattle.eating_laws.proofs.Full.{moments_scaled}
 use Rattle.eating_laws.proofs.Right.{IsRightBelow, right_partial}
 use Rattle.frac128.specs.Lcm.{IsLcm}
@@ -14,9 +14,9 @@ use Rattle.frac128.specs.Measure.{multiple_of_lowest, factor_positive}
 use Rattle.frac128.specs.Fraction.{numerator, denominator}
 use Rattle.frac128.specs.declared.fractions.Fraction.{Fraction}
 use Rattle.eating.specs.Steps.{IsReady, IsAdvanced, AreAdvanced, IsEarliest}
-use Rattle.eating.proofs.Between.{SlotAt, some_left, next_right, next_left, ready_scale}
-use Rattle.eating.proofs.Between.SlotAt.{early, filled, still}
-use Rattle.eating.proofs.Going.{new_positive, factor_some, moment_below, slot_full}
+use Rattle.eating.proofs.Between.{LimitAt, some_left, next_right, next_left, ready_scale}
+use Rattle.eating.proofs.Between.LimitAt.{early, filled, still}
+use Rattle.eating.proofs.Going.{new_positive, factor_some, moment_below, limit_full}
 
 module _ (market : Market) (U u : ℕ) (e rests speeds : List ℕ) (ready : IsReady market U u e (λ j. slice_index rests j) (λ j. slice_index speeds j))
     (lowest : IsLowestTerms U e) (m : Fraction) (next : IsEarliest U u (length e) e rests speeds m)
@@ -33,12 +33,12 @@ module _ (market : Market) (U u : ℕ) (e rests speeds : List ℕ) (ready : IsRe
   below : c * u + s < U'
   below = (let h = moment_below U u e rests speeds unit_positive m next U' least c w one two in omega (arith, h, sum))
 
-  full : slice_index speeds next.slot * s ≡ c * slice_index rests next.slot
-  full = slot_full U u e rests speeds unit_positive m next U' least c w one two s sum
+  full : slice_index speeds next.limit * s ≡ c * slice_index rests next.limit
+  full = limit_full U u e rests speeds unit_positive m next U' least c w one two s sum
 
   step_some : (n : ℕ) → n ≡ s → 0 < n
   step_some zero same =
-      let j = next.slot in
+      let j = next.limit in
       let left : 0 < slice_index rests j = some_left market U u e (λ j. slice_index rests j) (λ j. slice_index speeds j) ready j next.known next.is_open in
       let more : 0 < c * slice_index rests j = mul-pos factor_above left in
       let none : slice_index speeds j * s ≡ slice_index speeds j * 0 = ap (λ n. slice_index speeds j * n) (sym same) in
@@ -48,19 +48,19 @@ module _ (market : Market) (U u : ℕ) (e rests speeds : List ℕ) (ready : IsRe
   scaled : IsReady market (c * U) (c * u) (map (λ x. c * x) e) (λ j. c * slice_index rests j) (λ j. slice_index speeds j)
   scaled = ready_scale market c U u e (λ j. slice_index rests j) (λ j. slice_index speeds j) factor_above ready
 
-  module _ (e' rests' : List ℕ) (slots : AreAdvanced U c s (c * u + s) e rests speeds e' rests') where
+  module _ (e' rests' : List ℕ) (limits : AreAdvanced U c s (c * u + s) e rests speeds e' rests') where
     abbrev At : ℕ → Type 0
-    At j = SlotAt market (c * U) (c * u) (map (λ x. c * x) e) (λ j. c * slice_index rests j) (λ j. slice_index speeds j) scaled (c * u + s)
+    At j = LimitAt market (c * U) (c * u) (map (λ x. c * x) e) (λ j. c * slice_index rests j) (λ j. slice_index speeds j) scaled (c * u + s)
         (moment_at (map (λ x. c * x) e) j) (moment_at e' j) (c * slice_index rests j) (slice_index speeds j)
 
     speed_is : (j : ℕ) → slice_index speeds j * (c * u + s - c * u) ≡ slice_index speeds j * s
     speed_is j = ap (λ n. slice_index speeds j * n) (let f : c * u + s - c * u ≡ s = omega arith in f)
 
-    slot_at : (j : ℕ) → j < length e → At j
-    slot_at j inside = cases (ready.right.said j inside)
+    limit_at : (j : ℕ) → j < length e → At j
+    limit_at j inside = cases (ready.right.said j inside)
       where
         a : IsAdvanced U c s (c * u + s) (slice_index e j) (slice_index rests j) (slice_index speeds j) (slice_index e' j) (slice_index rests' j)
-        a = slots.each j inside
+        a = limits.each j inside
 
         opened : moment_at e j ≡ U → (0 < slice_index rests' j) ⊎ (slice_index rests' j ≡ 0) → At j
         opened o (inl p) =
@@ -75,7 +75,7 @@ module _ (market : Market) (U u : ℕ) (e rests speeds : List ℕ) (ready : IsRe
         cases (inr o) = opened o (elim (cases_lt 0 (slice_index rests' j)) [ inl p ↦ inl p | inr p ↦ inr (omega arith) ])
 
     many : length e' ≡ length (map (λ x. c * x) e)
-    many = slots.many ∙ sym (length-map e (λ x. c * x))
+    many = limits.many ∙ sym (length-map e (λ x. c * x))
 
     inside_map : {j : ℕ} → j < length (map (λ x. c * x) e) → j < length e
     inside_map {j} p = omega (arith, p, length-map e (λ x. c * x))
@@ -90,16 +90,16 @@ module _ (market : Market) (U u : ℕ) (e rests speeds : List ℕ) (ready : IsRe
     pub step_right : IsRightBelow market (c * U) (c * u + s + 1) e'
     step_right =
         next_right market (c * U) (c * u) (map (λ x. c * x) e) (λ j. c * slice_index rests j) (λ j. slice_index speeds j) scaled (c * u + s) e' low high many
-        (λ j p. slot_at j (inside_map p))
+        (λ j p. limit_at j (inside_map p))
 
     -- what the open limits have left then
-    pub step_left : (j : ℕ) → j < length e' → moment_at e' j ≡ c * U → slice_index rests' j + eaten_by market (c * U) e' (slot_cells market j) (c * u + s) ≡ slot_ceiling market j * (c * U)
+    pub step_left : (j : ℕ) → j < length e' → moment_at e' j ≡ c * U → slice_index rests' j + eaten_by market (c * U) e' (limit_cells market j) (c * u + s) ≡ limit_ceiling market j * (c * U)
     step_left j p o =
-        let inside : j < length e = omega (arith, p, slots.many) in
-        let was : moment_at e j ≡ U = was_open j (slot_at j inside) o in
+        let inside : j < length e = omega (arith, p, limits.many) in
+        let was : moment_at e j ≡ U = was_open j (limit_at j inside) o in
         next_left market (c * U) (c * u) (map (λ x. c * x) e) (λ j. c * slice_index rests j) (λ j. slice_index speeds j) scaled (c * u + s) e' low high many
-        (λ i q. slot_at i (inside_map q)) j (slice_index rests' j) (omega (arith, inside, length-map e (λ x. c * x))) o
-        (omega (arith, speed_is j, (slots.each j inside).left was))
+        (λ i q. limit_at i (inside_map q)) j (slice_index rests' j) (omega (arith, inside, length-map e (λ x. c * x))) o
+        (omega (arith, speed_is j, (limits.each j inside).left was))
       where
         was_open : (j : ℕ) → At j → moment_at e' j ≡ c * U → moment_at e j ≡ U
         was_open j (early p q) k = absurd (omega (arith, p, q, k, high))
@@ -107,9 +107,9 @@ module _ (market : Market) (U u : ℕ) (e rests speeds : List ℕ) (ready : IsRe
         was_open j (still o f q) k = eq_of_mul-eq-mul_left c factor_above (moment_at e j) U (sym (moments_scaled c e j) ∙ o)
 
     -- the limit whose moment it is is full
-    pub step_full : moment_at e' next.slot ≡ c * u + s
+    pub step_full : moment_at e' next.limit ≡ c * u + s
     step_full =
-        let a = slots.each next.slot next.known in
+        let a = limits.each next.limit next.known in
         a.now next.is_open (let f = a.left next.is_open in omega (arith, f, full))
 
     -- what divides the new unit and all new numbers is 1
@@ -133,8 +133,8 @@ module _ (market : Market) (U u : ℕ) (e rests speeds : List ℕ) (ready : IsRe
       old_divides : (j : ℕ) → j < length e → f ∣ c * moment_at e j
       old_divides j inside = elim (cases_order (moment_at e j) U) [
         | inl same ↦ subst (λ n. f ∣ c * n) (sym same) p
-        | inr (inl less) ↦ subst (λ n. f ∣ n) ((slots.each j inside).full (λ o. omega arith)) (q j (omega (arith, inside, slots.many)))
-        | inr (inr more) ↦ subst (λ n. f ∣ n) ((slots.each j inside).full (λ o. omega arith)) (q j (omega (arith, inside, slots.many)))
+        | inr (inl less) ↦ subst (λ n. f ∣ n) ((limits.each j inside).full (λ o. omega arith)) (q j (omega (arith, inside, limits.many)))
+        | inr (inr more) ↦ subst (λ n. f ∣ n) ((limits.each j inside).full (λ o. omega arith)) (q j (omega (arith, inside, limits.many)))
       ]
 
       in_unit : U ∣ part
@@ -164,7 +164,7 @@ module _ (market : Market) (U u : ℕ) (e rests speeds : List ℕ) (ready : IsRe
       in_denominator = divides (multiple_of_lowest part (denominator m) (λ _. y) (λ _. numerator m) part_positive m.positive (λ _. proportion) (λ g a b. m.lowest g (b 0) a))
         where
           moment_divides : f ∣ c * u + s
-          moment_divides = subst (λ n. f ∣ n) step_full (q next.slot (let inside = next.known in omega (arith, inside, slots.many)))
+          moment_divides = subst (λ n. f ∣ n) step_full (q next.limit (let inside = next.known in omega (arith, inside, limits.many)))
 
           y : ℕ
           y = (c * u + s) / f
@@ -197,7 +197,7 @@ module _ (market : Market) (U u : ℕ) (e rests speeds : List ℕ) (ready : IsRe
 
     -- it is a table up to the moment
     pub step_partial : IsPartialTable market (c * U) (c * u + s) e'
-    step_partial = right_partial market (c * U) (c * u + s) e' step_right next.slot (let inside = next.known in omega (arith, inside, slots.many)) step_full
+    step_partial = right_partial market (c * U) (c * u + s) e' step_right next.limit (let inside = next.known in omega (arith, inside, limits.many)) step_full
 
     -- and the first that is too fine, where its denominator is
     pub step_too_fine : U ≤ 2 ^ 116 → 2 ^ 116 < c * U → IsFirstTooFine market (c * U) (c * u + s) e'
@@ -205,18 +205,18 @@ module _ (market : Market) (U u : ℕ) (e rests speeds : List ℕ) (ready : IsRe
       partial = step_partial;
       lowest = step_lowest;
       above = above;
-      fits_before = (c, U, refl, fine, λ j p less. fits j (omega (arith, p, slots.many)) less);
+      fits_before = (c, U, refl, fine, λ j p less. fits j (omega (arith, p, limits.many)) less);
     }
       where
         fits : (j : ℕ) → j < length e → moment_at e' j < c * u + s → c ∣ moment_at e' j
         fits j inside less = elim (cases_order (moment_at e j) U) [
           | inl same ↦ absurd (open_late j inside same less)
-          | inr (inl below) ↦ subst (λ n. c ∣ n) (sym ((slots.each j inside).full (λ o. omega arith))) (dvd-mul_right c (moment_at e j))
-          | inr (inr beyond) ↦ subst (λ n. c ∣ n) (sym ((slots.each j inside).full (λ o. omega arith))) (dvd-mul_right c (moment_at e j))
+          | inr (inl below) ↦ subst (λ n. c ∣ n) (sym ((limits.each j inside).full (λ o. omega arith))) (dvd-mul_right c (moment_at e j))
+          | inr (inr beyond) ↦ subst (λ n. c ∣ n) (sym ((limits.each j inside).full (λ o. omega arith))) (dvd-mul_right c (moment_at e j))
         ]
           where
             open_late : (j : ℕ) → j < length e → moment_at e j ≡ U → moment_at e' j < c * u + s → ⊥
             open_late j inside o less = elim (cases_lt 0 (slice_index rests' j)) [
-              | inl p ↦ (let f = (slots.each j inside).later o p in omega (arith, f, less, high))
-              | inr p ↦ (let f = (slots.each j inside).now o (omega arith) in omega (arith, f, less))
+              | inl p ↦ (let f = (limits.each j inside).later o p in omega (arith, f, less, high))
+              | inr p ↦ (let f = (limits.each j inside).now o (omega arith) in omega (arith, f, less))
             ]

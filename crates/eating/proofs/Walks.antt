@@ -2,7 +2,7 @@
 use Rattle.std.proofs.Common.{◌≡◌, ℕ, ◌-◌, ◌<◌, ◌++◌, ◌∷◌, List, Option, Some, None, length, map, ap, sym, ◌∙◌, arith}
 use Rattle.std.proofs.lemmas.List.{append-nil}
 use Rattle.definitions.specs.Sets.{FamilyValue, IsFamily, IsSet}
-use Rattle.definitions.specs.Hierarchies.{TreesValue, AreTreesOf, chain_of, parent_at}
+use Rattle.definitions.specs.Trees.{TreesValue, AreTreesOf, chain_of, parent_at}
 use Rattle.side_laws.proofs.Trees.{chain_none, chain_step}
 
 pub chain_next : (f : FamilyValue) (t : TreesValue) → IsFamily f → AreTreesOf f t → (next parent : Option ℕ) (s : ℕ) → next ≡ Some s → IsSet f s → parent ≡ parent_at t s

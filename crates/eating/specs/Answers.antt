@@ -1,9 +1,9 @@
 -- What eating answers: the eating table in lowest terms, or the first table that is too fine.
 use Rattle.std.specs.Prelude.{◌≡◌, ℕ, ◌*◌, ◌<◌, ◌≤◌, ◌^◌, List, length, take, drop}
 use Rattle.definitions.specs.Sets.{cell_of, unit_at}
-use Rattle.definitions.specs.Values.{ProblemValue, column_count, market_of, capped_limits}
-use Rattle.definitions.specs.Eating.{full_at, IsAssignmentOf, IsEatingTable, IsLowestTerms, IsFirstTooFine}
-use Rattle.eating_laws.specs.Shares.{IsMatrixFor}
+use Rattle.definitions.specs.Values.{ProblemValue, column_count, market_of, limits_of, capped_limits}
+use Rattle.definitions.specs.Eating.{full_at, demand_sum, IsAssignmentOf, IsEatingTable, IsLowestTerms, IsFirstTooFine}
+use Rattle.definitions.specs.Certificate.{distinct_moments}
 use Rattle.eating.specs.Eaten.{EatenValue}
 use Rattle.eating.specs.declared.answer.EatFault.{EatFault}
 use Rattle.eating.specs.declared.answer.EatFault.TheVariants.{TooFine, NoMemory}
@@ -23,8 +23,7 @@ pub record IsEatenBy (p : ProblemValue) (e : List ℕ) (v : EatenValue) : Type 0
   pub lowest : IsLowestTerms v.shares.denominator e
   pub within : v.shares.denominator ≤ 2 ^ 116
   pub moments : v.moments ≡ take p.stated e
-  pub matrix : IsMatrixFor p v.shares
-  pub shares : IsAssignmentOf (market_of p) v.shares.denominator e v.shares
+  pub shares : IsAssignmentOf (column_count p) (market_of p) v.shares.denominator e v.shares
   pub caps : AreCaps p v.shares.denominator e v.caps
 
 -- v is what is eaten in the problem
@@ -42,3 +41,14 @@ pub record IsTooFineAt (p : ProblemValue) (D : ℕ) : Type 0 where
 abbrev pub IsEatFault : ProblemValue → EatFault → Type 0
 IsEatFault p (TooFine D) = IsTooFineAt p D
 IsEatFault p NoMemory = Unit {0}
+
+-- there are many moments: with n the sum of all demands, n ^ R is above 2^116 for the R distinct moments before the end of each
+-- eating table, and n to the number of limits is above it too
+pub record HasManyMoments (p : ProblemValue) : Type 0 where
+  pub moments : (D : ℕ) (e : List ℕ) → IsEatingTable (market_of p) D e → 2 ^ 116 < demand_sum (market_of p) ^ length (distinct_moments e D)
+  pub limits : 2 ^ 116 < demand_sum (market_of p) ^ length (limits_of p)
+
+-- the fault is want of memory, or there are many moments: where few moments or few limits give a power up to 2^116, TooFine doesn't come
+abbrev pub NeedsManyMoments : ProblemValue → EatFault → Type 0
+NeedsManyMoments p (TooFine D) = HasManyMoments p
+NeedsManyMoments p NoMemory = Unit {0}

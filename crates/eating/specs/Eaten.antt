@@ -8,6 +8,10 @@ pub record EatenValue : Type 0 where
   pub shares : ScaledValue
   pub caps : List ℕ
 
+-- what is eaten, with these moments, shares and caps
+abbrev pub eaten_value : List ℕ → ScaledValue → List ℕ → EatenValue
+eaten_value moments shares caps = record { moments = moments; shares = shares; caps = caps }
+
 -- a lawful matrix, no moment after the end, and a cap for each cell
 pub record IsEatenValue (v : EatenValue) : Type 0 where
   pub matrix : IsScaledMatrix v.shares

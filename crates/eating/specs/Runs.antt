@@ -1,14 +1,23 @@
 -- The state of eating at its start and from moment to moment.
-use Rattle.std.specs.Prelude.{◌≡◌, ℕ, ◌+◌, ◌*◌, ◌<◌, ◌≤◌, ◌^◌, List, length, slice_index, replicate}
+use Rattle.std.specs.Prelude.{◌≡◌, ℕ, ◌+◌, ◌*◌, ◌<◌, ◌≤◌, ◌^◌, List, length, slice_index, replicate, Option}
 use Rattle.definitions.specs.Values.{Market}
-use Rattle.definitions.specs.Eating.{slot_ceiling, IsFirstTooFine, IsLowestTerms}
+use Rattle.definitions.specs.Eating.{limit_ceiling, IsFirstTooFine, IsLowestTerms}
 use Rattle.frac128.specs.Fraction.{numerator, denominator}
 use Rattle.frac128.specs.declared.fractions.Fraction.{Fraction}
 use Rattle.frac128.specs.Lcm.{IsLcm}
 use Rattle.eating.specs.declared.progress.Progress.{Progress}
 use Rattle.eating.specs.Plan.{LineValue, AreLinesOf, IsSmall}
 use Rattle.eating.specs.Seats.{AreSeats, seat_speed}
-use Rattle.eating.specs.Steps.{AreAdvanced, IsReady}
+use Rattle.eating.specs.Steps.{AreAdvanced, IsEarliest, IsNext, IsReady, IsWithin}
+
+-- nothing is eaten: limits with these ceilings are open, and so many agents are each at the first place
+pub record IsStartOver (ceilings : List ℕ) (agents : ℕ) (s : Progress) : Type 0 where
+  pub unit : s.unit ≡ 1
+  pub at : s.at ≡ 0
+  pub moments : s.moments.items ≡ replicate (length ceilings) 1
+  pub rests : s.rests.items ≡ ceilings
+  pub speeds : s.speeds.items ≡ replicate (length ceilings) 0
+  pub places : s.places.items ≡ replicate agents 0
 
 -- nothing is eaten: all limits are open, with their ceilings left, and each agent is at its first place
 pub record IsStart (market : Market) (agents : ℕ) (s : Progress) : Type 0 where
@@ -16,7 +25,7 @@ pub record IsStart (market : Market) (agents : ℕ) (s : Progress) : Type 0 wher
   pub at : s.at ≡ 0
   pub moments : s.moments.items ≡ replicate (length market.limits) 1
   pub many_rests : length s.rests.items ≡ length market.limits
-  pub rests : (j : ℕ) → j < length market.limits → slice_index s.rests.items j ≡ slot_ceiling market j
+  pub rests : (j : ℕ) → j < length market.limits → slice_index s.rests.items j ≡ limit_ceiling market j
   pub speeds : s.speeds.items ≡ replicate (length market.limits) 0
   pub places : s.places.items ≡ replicate agents 0
 
@@ -30,6 +39,28 @@ pub record IsRunOf (market : Market) (lines : List LineValue) (s : Progress) : T
 abbrev pub IsRun : List LineValue → Progress → Type 0
 IsRun lines s = (market : Market) × IsRunOf market lines s
 
+-- the state is one from which the eating goes on
+abbrev pub CanGoOn : Progress → Type 0
+CanGoOn s = IsWithin s.unit s.at s.moments.items s.rests.items s.speeds.items
+
+-- the earliest moment before the end at which an open limit is full
+abbrev pub IsEarliestMoment : Progress → Fraction → Type 0
+IsEarliestMoment s m = IsEarliest s.unit s.at (length s.moments.items) s.moments.items s.rests.items s.speeds.items m
+
+-- that moment, where there is one
+abbrev pub IsNextMoment : Progress → Option Fraction → Type 0
+IsNextMoment s next = IsNext s.unit s.at (length s.moments.items) s.moments.items s.rests.items s.speeds.items next
+
+-- no open limit has less left than a step over the unit times `factor` takes
+abbrev pub LeavesEnough : Progress → ℕ → ℕ → Type 0
+LeavesEnough s factor step = (j : ℕ) → j < length s.moments.items → slice_index s.moments.items j ≡ s.unit
+    → slice_index s.speeds.items j * step ≤ factor * slice_index s.rests.items j
+
+-- each limit after such a step
+abbrev pub AreLimitsAdvanced : Progress → Progress → ℕ → ℕ → Type 0
+AreLimitsAdvanced old new factor step = AreAdvanced old.unit factor step (factor * old.at + step)
+    old.moments.items old.rests.items old.speeds.items new.moments.items new.rests.items
+
 -- a step to the moment m, over the least unit that it fits
 pub record IsStepTo (old new : Progress) (m : Fraction) : Type 0 where
   pub factor : ℕ
@@ -40,7 +71,7 @@ pub record IsStepTo (old new : Progress) (m : Fraction) : Type 0 where
   pub at : new.at ≡ factor * old.at + step
   pub least : IsLcm old.unit (denominator m) new.unit
   pub value : new.at * denominator m ≡ numerator m * new.unit
-  pub slots : AreAdvanced old.unit factor step (factor * old.at + step) old.moments.items old.rests.items old.speeds.items new.moments.items new.rests.items
+  pub limits : AreLimitsAdvanced old new factor step
   pub speeds : new.speeds.items ≡ old.speeds.items
   pub places : new.places.items ≡ old.places.items
 

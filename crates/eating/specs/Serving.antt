@@ -4,6 +4,7 @@ use Rattle.std.specs.List.{IsDistinct}
 use Rattle.std.specs.Set.{is_member}
 use Rattle.definitions.specs.Sets.{cell_of, holds}
 use Rattle.definitions.specs.Values.{Agent, Market, ProblemValue, column_count, market_of}
+use Rattle.definitions.specs.Eating.{full_at}
 use Rattle.eating.specs.declared.eater.Eater.{Eater}
 use Rattle.eating.specs.Plan.{LineValue, IsLineOf, AreLinesOf}
 use Rattle.eating.specs.Runs.{IsStart}
@@ -30,10 +31,14 @@ pub record IsServed (market : Market) (lines : List LineValue) (moments : List �
   pub apart : (i : ℕ) (w : Agent) → slice_get market.agents i ≡ Some w → IsDistinct nat_eq w.list
   pub many : length moments ≡ length market.limits
 
--- the limits from slot `stated` on hold no cell off the lists
+-- the limits from number `stated` on hold no cell off the lists
 abbrev pub IsUncappedOffLists : Market → ℕ → Type 0
 IsUncappedOffLists market stated = (i a : ℕ) (w : Agent) → slice_get market.agents i ≡ Some w → is_member nat_eq w.list a ≡ false
     → All (λ s. holds s.cells (cell_of i a) ≡ false) (drop stated market.limits)
+
+-- the moment at which agent i can't eat of column a by the limits from number `stated` on, or D where none of them holds the cell
+abbrev pub cap_in : Market → ℕ → List ℕ → ℕ → ℕ → ℕ → ℕ
+cap_in market D e stated i a = full_at D (drop stated market.limits) (drop stated e) i a
 
 -- what a problem's eating begins with
 pub record IsEaterOf (p : ProblemValue) (s : Eater) : Type 0 where

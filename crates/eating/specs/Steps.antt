@@ -1,7 +1,7 @@
 -- The steps of eating from one moment at which limits are full to the next.
 use Rattle.std.specs.Prelude.{◌≡◌, ◌≢◌, ℕ, ◌+◌, ◌*◌, ◌<◌, ◌≤◌, ◌^◌, List, length, slice_index, ◌⊎◌, Option, Some, None, MatchOption}
 use Rattle.definitions.specs.Values.{Market}
-use Rattle.definitions.specs.Eating.{eaten_by, moment_at, slot_cells, slot_ceiling}
+use Rattle.definitions.specs.Eating.{eaten_by, moment_at, limit_cells, limit_ceiling}
 use Rattle.eating_laws.proofs.Right.{IsRightBelow}
 use Rattle.eating_laws.proofs.Sums.{speed_of}
 use Rattle.frac128.specs.Fraction.{numerator, denominator}
@@ -11,17 +11,17 @@ use Rattle.frac128.specs.declared.fractions.Fraction.{Fraction}
 pub record IsReady (market : Market) (unit at : ℕ) (moments : List ℕ) (rest speed : ℕ → ℕ) : Type 0 where
   pub right : IsRightBelow market unit (at + 1) moments
   pub left : (j : ℕ) → j < length moments → moment_at moments j ≡ unit
-      → rest j + eaten_by market unit moments (slot_cells market j) at ≡ slot_ceiling market j * unit
-  pub fast : (j : ℕ) → j < length moments → speed j ≡ speed_of market unit moments at (slot_cells market j)
+      → rest j + eaten_by market unit moments (limit_cells market j) at ≡ limit_ceiling market j * unit
+  pub fast : (j : ℕ) → j < length moments → speed j ≡ speed_of market unit moments at (limit_cells market j)
 
--- a slot after a step over the unit times `factor`: an open limit has less left, and is full at `at` if nothing is
+-- a limit after a step over the unit times `factor`: an open limit has less left, and is full at `at` if nothing is
 pub record IsAdvanced (unit factor step at moment rest speed new_moment new_rest : ℕ) : Type 0 where
   pub full : moment ≢ unit → new_moment ≡ factor * moment
   pub left : moment ≡ unit → new_rest + speed * step ≡ factor * rest
   pub now : moment ≡ unit → new_rest ≡ 0 → new_moment ≡ at
   pub later : moment ≡ unit → 0 < new_rest → new_moment ≡ factor * unit
 
--- the same of every slot
+-- the same of every limit
 pub record AreAdvanced (unit factor step at : ℕ) (moments rests speeds new_moments new_rests : List ℕ) : Type 0 where
   pub many : length new_moments ≡ length moments
   pub many_rests : length new_rests ≡ length moments
@@ -39,10 +39,10 @@ IsNoLater unit at rest speed m = numerator m * (unit * speed) ≤ (at * speed + 
 
 -- the earliest moment before the end at which one of the first n limits is full
 pub record IsEarliest (unit at n : ℕ) (moments rests speeds : List ℕ) (m : Fraction) : Type 0 where
-  pub slot : ℕ
-  pub known : slot < n
-  pub is_open : slice_index moments slot ≡ unit
-  pub key : IsKey unit at (slice_index rests slot) (slice_index speeds slot) m
+  pub limit : ℕ
+  pub known : limit < n
+  pub is_open : slice_index moments limit ≡ unit
+  pub key : IsKey unit at (slice_index rests limit) (slice_index speeds limit) m
   pub least : (j : ℕ) → j < n → slice_index moments j ≡ unit → IsNoLater unit at (slice_index rests j) (slice_index speeds j) m
 
 -- none of the first n limits is full before the end
@@ -63,7 +63,7 @@ IsEarlier (Some a) (Some b) result =
     ((result ≡ Some a) × (numerator a * denominator b ≤ numerator b * denominator a))
     ⊎ ((result ≡ Some b) × (numerator b * denominator a < numerator a * denominator b))
 
--- a list for each slot, a moment before the end over a unit that isn't too fine, and no number that is too large
+-- a list for each limit, a moment before the end over a unit that isn't too fine, and no number that is too large
 pub record IsWithin (unit at : ℕ) (moments rests speeds : List ℕ) : Type 0 where
   pub before_end : at < unit
   pub fine : unit ≤ 2 ^ 116

@@ -1,12 +1,13 @@
 //! The call that eats.
 
 ghost use Rattle.std.specs.Prelude.{IfErr, IfOk};
-ghost use Rattle.definitions.specs.Hierarchies.{AreTreesOf};
-ghost use Rattle.eating.specs.Answers.{IsEatFault, IsEaten};
+ghost use Rattle.definitions.specs.Trees.{AreTreesOf};
+ghost use Rattle.eating.specs.Answers.{IsEatFault, IsEaten, NeedsManyMoments};
 
 use crate::eaten::Eaten;
 use crate::eater::Eater;
 use bihierarchy::Trees;
+use frac128::Beyond;
 use quota_sets::Problem;
 use std::alloc::{AllocError, Global};
 use thiserror::Error;
@@ -37,21 +38,31 @@ impl From<AllocError> for EatFault {
     }
 }
 
+impl From<Beyond> for EatFault {
+    ghost use Rattle.std.specs.Prelude.{◌≡◌};
+    ghost use Rattle.eating.specs.declared.answer.EatFault.TheVariants.{TooFine};
+
+    ghost from_gives = { λ beyond e. e ≡ TooFine beyond.lcm };
+
+    fn from(beyond: Beyond) -> EatFault {
+        EatFault::TooFine {
+            denominator: beyond.lcm,
+        }
+    }
+}
+
 /// The eating table of a problem in lowest terms, with its assignment. The trees are those of the problem's family.
 ///
 /// `TooFine` comes exactly where there is a first table up to a moment that is too fine: the moments up to it,
 /// in time order, have a least common denominator above 2^116, and those before it one up to 2^116. Such a table
-/// excludes an eating table with a denominator up to 2^116. `NoMemory` may come at any problem.
+/// excludes an eating table with a denominator up to 2^116. Where all demands add up to n, and R distinct moments
+/// before the end give an n^R up to 2^116, it doesn't come. `NoMemory` may come at any problem.
 pub fn eat(alloc: Global, problem: &Problem, trees: &Trees) -> Result<Eaten, EatFault>
     requires { AreTreesOf problem.now.family trees.now }
     ensures eaten { IfOk result (IsEaten problem.now) }
     ensures refused { IfErr result (IsEatFault problem.now) }
+    ensures bound { IfErr result (NeedsManyMoments problem.now) }
 {
     let eater = Eater::new(alloc, problem, trees)?;
-    match eater.finish() {
-        Ok(eaten) => Ok(eaten),
-        Err(beyond) => Err(EatFault::TooFine {
-            denominator: beyond.lcm,
-        }),
-    }
+    Ok(eater.finish()?)
 }

@@ -1,7 +1,8 @@
-//! What is eaten: the moments at which the sets are full, and what each agent has in the end.
+//! What is eaten: the moments at which the sets are full, and what each agent has in the end. How it was eaten isn't
+//! known here.
 
 ghost use Rattle.std.specs.Prelude.{◌≡◌};
-ghost use Rattle.eating.specs.Eaten.{IsEatenValue};
+ghost use Rattle.eating.specs.Eaten.{IsEatenValue, eaten_value};
 
 use quota_sets::Scaled;
 use std::marker::Model;
@@ -16,20 +17,20 @@ pub struct Eaten {
 }
 
 impl Model for Eaten {
-    ghost use Rattle.eating.specs.Eaten.{EatenValue, IsEatenValue};
+    ghost use Rattle.eating.specs.Eaten.{EatenValue, IsEatenValue, eaten_value};
 
     ghost Value = { EatenValue };
 
-    ghost view = { λ e. record { moments = e.moments.items; shares = e.shares; caps = e.caps.items } };
+    ghost view = { λ e. eaten_value e.moments.items e.shares e.caps.items };
 
-    ghost invariant = { λ e. IsEatenValue (record { moments = e.moments.items; shares = e.shares; caps = e.caps.items }) };
+    ghost invariant = { λ e. IsEatenValue (eaten_value e.moments.items e.shares e.caps.items) };
 }
 
 impl Eaten {
     /// What is eaten, with the moments of the stated sets and of all cells' own limits.
     pub(crate) fn new(moments: Vec<u128>, shares: Scaled, caps: Vec<u128>) -> Eaten
-        requires { IsEatenValue (record { moments = moments.items; shares = shares; caps = caps.items }) }
-        ensures { result ≡ record { moments = moments.items; shares = shares; caps = caps.items } }
+        requires { IsEatenValue (eaten_value moments.items shares caps.items) }
+        ensures { result ≡ eaten_value moments.items shares caps.items }
     {
         Eaten {
             moments,

@@ -1,7 +1,8 @@
-// Eating in two parts: what takes memory, and the rest.
+// Eating in two parts: what takes memory, and the rest. Only here a problem becomes lines and rests, and these what is
+// eaten; the steps between are those of `progress`.
 
 ghost use Rattle.std.specs.Prelude.{IfErr, IfOk, OnOk};
-ghost use Rattle.definitions.specs.Hierarchies.{AreTreesOf};
+ghost use Rattle.definitions.specs.Trees.{AreTreesOf};
 ghost use Rattle.definitions.specs.Values.{IsProblem, ProblemValue};
 ghost use Rattle.eating.specs.Answers.{IsEaten, IsTooFineAt};
 ghost use Rattle.eating.specs.Serving.{IsEaterOf};
@@ -37,16 +38,8 @@ impl Eater {
         let agents = problem.agents().len() as usize;
         let cells = agents * columns as usize;
         let lines = lines_of(alloc, problem, trees)?;
-        let rests = ceilings_of(alloc, problem)?;
-        let slots = rests.len();
-        let progress = Progress {
-            unit: 1,
-            at: 0,
-            moments: vec![in alloc; 1; slots]?,
-            rests,
-            speeds: vec![in alloc; 0; slots]?,
-            places: vec![in alloc; 0; agents]?,
-        };
+        let ceilings = ceilings_of(alloc, problem)?;
+        let progress = Progress::start(alloc, ceilings, agents)?;
         Ok(Eater {
             stated: problem.stated() as usize,
             columns,
@@ -60,8 +53,10 @@ impl Eater {
     /// Eats to the end. It takes no memory.
     pub fn finish(self) -> Result<Eaten, Beyond>
         requires { (problem : ProblemValue) × IsProblem problem × IsEaterOf problem self }
-        ensures eaten { (problem : ProblemValue) → IsProblem problem → IsEaterOf problem self → IfOk result (IsEaten problem) }
-        ensures too_fine { (problem : ProblemValue) → IsProblem problem → IsEaterOf problem self → IfErr result (λ e. IsTooFineAt problem e.lcm) }
+        ensures eaten { (problem : ProblemValue) → IsProblem problem → IsEaterOf problem self
+            → IfOk result (IsEaten problem) }
+        ensures too_fine { (problem : ProblemValue) → IsProblem problem → IsEaterOf problem self
+            → IfErr result (λ e. IsTooFineAt problem e.lcm) }
     {
         let Eater {
             stated,

@@ -1,18 +1,19 @@
-// What eating goes over: each agent's list with the limits that hold its cells.
+// What eating goes over: each agent's list with the limits that hold its cells. Limits count from 0: first the
+// stated sets by number, then the capped cells agent by agent. Nothing here knows of moments.
 
 ghost use Rattle.std.specs.Prelude.{◌≡◌, ◌+◌, ◌-◌, ◌<◌, ◌≤◌, ◌^◌, length, map, take, IfOk};
-ghost use Rattle.definitions.specs.Hierarchies.{AreTreesOf};
+ghost use Rattle.definitions.specs.Trees.{AreTreesOf};
 ghost use Rattle.definitions.specs.Values.{demand_at, limits_of, list_at, market_of, stated_sets};
 ghost use Rattle.eating.specs.Caps.{caps_before, capped_count};
 ghost use Rattle.eating.specs.Holders.{chain_at, holders_in};
-ghost use Rattle.eating.specs.Plan.{AreLinesOf, IsLine, IsLineOf, holders_at};
+ghost use Rattle.eating.specs.Plan.{AreLinesOf, IsLine, IsLineOf, agent_at, holders_at};
 
 use bihierarchy::Trees;
 use quota_sets::{Cell, Problem};
 use std::alloc::{AllocError, Global};
 use std::marker::Model;
 
-/// An agent's demand, the columns of its list, and for each place the slots of the limits that hold its cell.
+/// An agent's demand, the columns of its list, and for each place the limits that hold its cell.
 #[derive(Drop)]
 pub(crate) struct Line {
     demand: u32,
@@ -26,7 +27,11 @@ impl Model for Line {
 
     ghost Value = { LineValue };
 
-    ghost view = { λ line. record { demand = line.demand; columns = line.columns.items; holders = map (λ h. h.items) line.holders.items } };
+    ghost view = { λ line. record {
+      demand = line.demand;
+      columns = line.columns.items;
+      holders = map (λ h. h.items) line.holders.items;
+    } };
 }
 
 impl Line {
@@ -43,7 +48,7 @@ impl Line {
         &self.columns
     }
 
-    /// The slots of the limits that hold the cell of a place.
+    /// The limits that hold the cell of a place.
     pub fn holders(&self, place: usize) -> &[u32]
         requires { place < length self.now.holders }
         ensures { result.now ≡ holders_at self.now place }
@@ -64,7 +69,7 @@ fn capped_cells(problem: &Problem, agent: u32) -> u32
     problem.list(agent).len() as u32 - 1
 }
 
-/// The slots of the stated sets that hold the cell of a place of an agent's list, from the deepest up.
+/// The stated sets that hold the cell of a place of an agent's list, as limits, from the deepest up.
 fn stated_holders(
     alloc: Global,
     problem: &Problem,
@@ -75,7 +80,8 @@ fn stated_holders(
     requires trees { AreTreesOf problem.now.family trees.now }
     requires agent { agent < length problem.now.agents }
     requires place { place < length (list_at problem.now agent) }
-    ensures { IfOk result (λ holders. holders.items ≡ map (λ s. s - 1) (chain_at problem.now trees.now agent place)) }
+    ensures { IfOk result (λ holders.
+        holders.items ≡ map (λ s. s - 1) (chain_at problem.now trees.now agent place)) }
 {
     let cell = Cell {
         agent,
@@ -90,8 +96,8 @@ fn stated_holders(
     Ok(holders)
 }
 
-/// The slots of all limits that hold the cell of a place of an agent's list. The first `caps` places have capped
-/// cells, with the slots from `capped` on.
+/// All limits that hold the cell of a place of an agent's list. The first `caps` places have capped cells, which
+/// are the limits from `capped` on.
 fn holders_of(
     alloc: Global,
     problem: &Problem,
@@ -105,7 +111,8 @@ fn holders_of(
     requires agent { agent < length problem.now.agents }
     requires place { place < length (list_at problem.now agent) }
     requires room { capped + caps < 2 ^ 32 }
-    ensures { IfOk result (λ holders. holders.items ≡ holders_in problem.now trees.now agent place capped caps) }
+    ensures { IfOk result (λ holders.
+        holders.items ≡ holders_in problem.now trees.now agent place capped caps) }
 {
     let mut holders = stated_holders(alloc, problem, trees, agent, place)?;
     if place < caps as usize {
@@ -114,7 +121,7 @@ fn holders_of(
     Ok(holders)
 }
 
-/// The line of an agent, whose capped cells have the slots from `capped` on.
+/// The line of an agent, whose capped cells are the limits from `capped` on.
 fn line_of(
     alloc: Global,
     problem: &Problem,
@@ -124,10 +131,13 @@ fn line_of(
 ) -> Result<Line, AllocError>
     requires trees { AreTreesOf problem.now.family trees.now }
     requires agent { agent < length problem.now.agents }
-    requires capped { capped ≡ problem.now.stated + caps_before (take agent (market_of problem.now).agents) }
-    requires room { capped + capped_count (demand_at problem.now agent) (list_at problem.now agent) ≤ length (limits_of problem.now) }
-    ensures line { IfOk result (IsLineOf (market_of problem.now) agent (record { demand = demand_at problem.now agent; list = list_at problem.now agent })) }
-    ensures slots { IfOk result (IsLine (length (limits_of problem.now))) }
+    requires capped { capped ≡ problem.now.stated
+        + caps_before (take agent (market_of problem.now).agents) }
+    requires room { capped + capped_count (demand_at problem.now agent) (list_at problem.now agent)
+        ≤ length (limits_of problem.now) }
+    ensures line { IfOk result
+        (IsLineOf (market_of problem.now) agent (agent_at problem.now agent)) }
+    ensures limits { IfOk result (IsLine (length (limits_of problem.now))) }
 {
     let list = problem.list(agent);
     let caps = capped_cells(problem, agent);
@@ -154,10 +164,10 @@ pub(crate) fn lines_of(
     ensures { IfOk result (λ lines. AreLinesOf (market_of problem.now) lines.items) }
 {
     let mut lines = Vec::new(alloc);
-    let mut slots = problem.stated();
+    let mut limits = problem.stated();
     for agent in 0..problem.agents().len() {
-        lines.push(line_of(alloc, problem, trees, agent, slots)?)?;
-        slots += capped_cells(problem, agent);
+        lines.push(line_of(alloc, problem, trees, agent, limits)?)?;
+        limits += capped_cells(problem, agent);
     }
     Ok(lines)
 }
@@ -176,7 +186,8 @@ fn capped_total(problem: &Problem) -> usize
 
 /// The ceilings of the stated sets, by number.
 fn stated_ceilings(alloc: Global, problem: &Problem) -> Result<Vec<u128>, AllocError>
-    ensures { IfOk result (λ ceilings. ceilings.items ≡ map (λ s. s.ceiling) (stated_sets problem.now)) }
+    ensures { IfOk result (λ ceilings.
+        ceilings.items ≡ map (λ s. s.ceiling) (stated_sets problem.now)) }
 {
     let mut ceilings = Vec::new(alloc);
     for set in 1..problem.stated() + 1 {
@@ -187,10 +198,11 @@ fn stated_ceilings(alloc: Global, problem: &Problem) -> Result<Vec<u128>, AllocE
 
 /// The ceiling of each limit: those of the stated sets by number, and 1 for each capped cell.
 pub(crate) fn ceilings_of(alloc: Global, problem: &Problem) -> Result<Vec<u128>, AllocError>
-    ensures { IfOk result (λ ceilings. ceilings.items ≡ map (λ s. s.ceiling) (limits_of problem.now)) }
+    ensures { IfOk result (λ ceilings.
+        ceilings.items ≡ map (λ s. s.ceiling) (limits_of problem.now)) }
 {
     let mut ceilings = stated_ceilings(alloc, problem)?;
-    let slots = ceilings.len() + capped_total(problem);
-    ceilings.resize(slots, 1)?;
+    let limits = ceilings.len() + capped_total(problem);
+    ceilings.resize(limits, 1)?;
     Ok(ceilings)
 }

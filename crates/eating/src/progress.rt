@@ -1,4 +1,5 @@
-// How far the eating has come, and its steps from one moment at which limits are full to the next.
+// How far the eating has come, and its steps from one moment at which limits are full to the next. Problems, trees and
+// names of sets are unknown here: there are lines, and limits by number.
 
 ghost use Rattle.std.specs.Prelude.{◌≡◌, ℕ, ◌+◌, ◌*◌, ◌<◌, ◌≤◌, ◌^◌, ◌==◌, length, slice_index, count_by, All, replicate, MatchOption, IfOk, IfErr, OnOk};
 ghost use Rattle.definitions.specs.Eating.{IsEatingTable, IsLowestTerms};
@@ -8,11 +9,12 @@ ghost use Rattle.frac128.specs.Fraction.{denominator};
 ghost use Rattle.frac128.specs.Lcm.{IsBeyond};
 ghost use Rattle.eating.specs.Plan.{AreLines, IsLine};
 ghost use Rattle.eating.specs.Seats.{AreSeats, AreSoFar, IsSeat, IsSoFar, seat_speed};
-ghost use Rattle.eating.specs.Steps.{AreAdvanced, IsAdvanced, IsEarliest, IsEarlier, IsKey, IsNext, IsWithin};
-ghost use Rattle.eating.specs.Runs.{IsRun, IsRunOf, IsSeated, IsStepTo, IsTooFineIn};
+ghost use Rattle.eating.specs.Steps.{IsAdvanced, IsEarlier, IsKey};
+ghost use Rattle.eating.specs.Runs.{AreLimitsAdvanced, CanGoOn, IsEarliestMoment, IsNextMoment, IsRun, IsRunOf, IsSeated, IsStartOver, IsStepTo, IsTooFineIn, LeavesEnough};
 
 use crate::plan::Line;
 use frac128::{Beyond, Fraction, lcm_within};
+use std::alloc::{AllocError, Global};
 
 /// The greatest denominator that isn't too fine.
 const FINEST: u128 = 1 << 116;
@@ -23,11 +25,11 @@ const FINEST: u128 = 1 << 116;
 pub(crate) struct Progress {
     pub unit: u128,
     pub at: u128,
-    /// By slot: the moment at which the limit is full.
+    /// By limit: the moment at which it is full.
     pub moments: Vec<u128>,
-    /// By slot: what the ceiling leaves, while the limit isn't full.
+    /// By limit: what its ceiling leaves, while it isn't full.
     pub rests: Vec<u128>,
-    /// By slot: how fast the limit is eaten.
+    /// By limit: how fast it is eaten.
     pub speeds: Vec<u32>,
     /// By agent: the place of its list that it eats.
     pub places: Vec<usize>,
@@ -43,13 +45,14 @@ struct Step {
 }
 
 impl Step {
-    /// The moment and the rest of a slot after the step. A limit of which nothing is left is full then.
-    fn slot(self, moment: u128, rest: u128, speed: u128) -> (u128, u128)
+    /// The moment and the rest of a limit after the step. If nothing of it is left, it is full then.
+    fn limit(self, moment: u128, rest: u128, speed: u128) -> (u128, u128)
         requires moment { moment ≤ self.unit }
         requires unit { self.factor * self.unit ≤ 2 ^ 116 }
         requires rest { moment ≡ self.unit → rest ≤ 1000 * self.unit }
         requires slow { moment ≡ self.unit → speed * self.step ≤ self.factor * rest }
-        ensures { IsAdvanced self.unit self.factor self.step self.at moment rest speed result.0 result.1 }
+        ensures { IsAdvanced self.unit self.factor self.step self.at
+            moment rest speed result.0 result.1 }
     {
         if moment != self.unit {
             return (self.factor * moment, rest);
@@ -63,14 +66,14 @@ impl Step {
     }
 }
 
-/// The least of the unit and the moments at these slots.
+/// The least of the unit and the moments of these limits.
 pub(crate) fn least_of(holders: &[u32], moments: &[u128], unit: u128) -> u128
     requires { All (λ h. h < length moments.now) holders.now }
     ensures { result ≡ least_of unit moments.now holders.now }
 {
     let mut least = unit;
-    for slot in holders {
-        least = least.min(moments[*slot as usize]);
+    for limit in holders {
+        least = least.min(moments[*limit as usize]);
     }
     least
 }
@@ -91,11 +94,13 @@ fn first_open(line: &Line, start: usize, moments: &[u128], unit: u128) -> usize
 /// Adds a demand to the speed of each holder.
 fn add_speed(speeds: &mut [u32], holders: &[u32], demand: u32)
     requires inside { All (λ h. h < length speeds.old) holders.now }
-    requires room { (j : ℕ) → slice_index speeds.old j + demand * count_by (λ h. h == j) holders.now < 2 ^ 32 }
-    ensures { (j : ℕ) → slice_index speeds.new j ≡ slice_index speeds.old j + demand * count_by (λ h. h == j) holders.now }
+    requires room { (j : ℕ)
+        → slice_index speeds.old j + demand * count_by (λ h. h == j) holders.now < 2 ^ 32 }
+    ensures { (j : ℕ) → slice_index speeds.new j
+        ≡ slice_index speeds.old j + demand * count_by (λ h. h == j) holders.now }
 {
-    for slot in holders {
-        speeds[*slot as usize] += demand;
+    for limit in holders {
+        speeds[*limit as usize] += demand;
     }
 }
 
@@ -150,16 +155,32 @@ fn earlier(first: Option<Fraction>, second: Option<Fraction>) -> Option<Fraction
 }
 
 impl Progress {
+    /// Nothing is eaten: each limit is open with its ceiling left, and each agent is at its first place.
+    pub fn start(alloc: Global, ceilings: Vec<u128>, agents: usize) -> Result<Progress, AllocError>
+        ensures { IfOk result (IsStartOver ceilings.items agents) }
+    {
+        let unit = 1;
+        let limits = ceilings.len();
+        Ok(Progress {
+            unit,
+            at: 0,
+            moments: vec![in alloc; unit; limits]?,
+            rests: ceilings,
+            speeds: vec![in alloc; 0; limits]?,
+            places: vec![in alloc; 0; agents]?,
+        })
+    }
+
     /// The earliest moment before the end at which an open limit is full, where there is one.
     fn next_moment(&self) -> Option<Fraction>
-        requires { IsWithin self.now.unit self.now.at self.now.moments.items self.now.rests.items self.now.speeds.items }
-        ensures { IsNext self.now.unit self.now.at (length self.now.moments.items) self.now.moments.items self.now.rests.items self.now.speeds.items result }
+        requires { CanGoOn self.now }
+        ensures { IsNextMoment self.now result }
     {
         let mut next = None;
-        for slot in 0..self.moments.len() {
-            if self.moments[slot] == self.unit {
-                let speed = self.speeds[slot] as u128;
-                next = earlier(next, key_of(self.rests[slot], speed, self.unit, self.at));
+        for limit in 0..self.moments.len() {
+            if self.moments[limit] == self.unit {
+                let speed = self.speeds[limit] as u128;
+                next = earlier(next, key_of(self.rests[limit], speed, self.unit, self.at));
             }
         }
         next
@@ -167,15 +188,14 @@ impl Progress {
 
     /// Goes on by `step` over the unit times `factor`. A limit of which nothing is left is full now.
     fn advance(&mut self, factor: u128, step: u128)
-        requires within { IsWithin self.old.unit self.old.at self.old.moments.items self.old.rests.items self.old.speeds.items }
+        requires within { CanGoOn self.old }
         requires positive { 1 ≤ factor }
         requires before_end { factor * self.old.at + step < factor * self.old.unit }
         requires fine { factor * self.old.unit ≤ 2 ^ 116 }
-        requires slow { (j : ℕ) → j < length self.old.moments.items → slice_index self.old.moments.items j ≡ self.old.unit
-            → slice_index self.old.speeds.items j * step ≤ factor * slice_index self.old.rests.items j }
+        requires slow { LeavesEnough self.old factor step }
         ensures unit { self.new.unit ≡ factor * self.old.unit }
         ensures at { self.new.at ≡ factor * self.old.at + step }
-        ensures slots { AreAdvanced self.old.unit factor step (factor * self.old.at + step) self.old.moments.items self.old.rests.items self.old.speeds.items self.new.moments.items self.new.rests.items }
+        ensures limits { AreLimitsAdvanced self.old self.new factor step }
         ensures speeds { self.new.speeds.items ≡ self.old.speeds.items }
         ensures places { self.new.places.items ≡ self.old.places.items }
     {
@@ -185,11 +205,11 @@ impl Progress {
             step,
             at: factor * self.at + step,
         };
-        for slot in 0..self.moments.len() {
-            let speed = self.speeds[slot] as u128;
-            let (moment, rest) = taken.slot(self.moments[slot], self.rests[slot], speed);
-            self.moments[slot] = moment;
-            self.rests[slot] = rest;
+        for limit in 0..self.moments.len() {
+            let speed = self.speeds[limit] as u128;
+            let (moment, rest) = taken.limit(self.moments[limit], self.rests[limit], speed);
+            self.moments[limit] = moment;
+            self.rests[limit] = rest;
         }
         self.unit *= factor;
         self.at = taken.at;
@@ -198,7 +218,8 @@ impl Progress {
     /// Seats each agent at its first open place, and adds the speeds up.
     fn seat(&mut self, lines: &[Line])
         requires lines { AreLines (length self.old.moments.items) lines.now }
-        requires so_far { AreSoFar self.old.unit self.old.moments.items lines.now self.old.places.items }
+        requires so_far { AreSoFar self.old.unit self.old.moments.items lines.now
+            self.old.places.items }
         requires many { length self.old.speeds.items ≡ length self.old.moments.items }
         ensures { IsSeated lines.now self.old self.new }
     {
@@ -214,10 +235,11 @@ impl Progress {
 
     /// Goes on to a moment, and notes the limits that are full then.
     fn go_to(&mut self, moment: Fraction) -> Result<(), Beyond>
-        requires within { IsWithin self.old.unit self.old.at self.old.moments.items self.old.rests.items self.old.speeds.items }
-        requires earliest { IsEarliest self.old.unit self.old.at (length self.old.moments.items) self.old.moments.items self.old.rests.items self.old.speeds.items moment }
+        requires within { CanGoOn self.old }
+        requires earliest { IsEarliestMoment self.old moment }
         ensures step { OnOk result (IsStepTo self.old self.new moment) }
-        ensures beyond { IfErr result (λ e. IsBeyond self.old.unit (denominator moment) (2 ^ 116) e.lcm) }
+        ensures beyond { IfErr result
+            (λ e. IsBeyond self.old.unit (denominator moment) (2 ^ 116) e.lcm) }
     {
         let unit = lcm_within(self.unit, moment.den(), FINEST)?;
         let factor = unit / self.unit;
@@ -229,10 +251,12 @@ impl Progress {
     /// Eats from moment 0 to the end, in a market with these lines.
     pub fn eat(&mut self, lines: &[Line]) -> Result<(), Beyond>
         requires { IsRun lines.now self.old }
-        ensures table { (market : Market) → IsRunOf market lines.now self.old → OnOk result (IsEatingTable market self.new.unit self.new.moments.items) }
+        ensures table { (market : Market) → IsRunOf market lines.now self.old
+            → OnOk result (IsEatingTable market self.new.unit self.new.moments.items) }
         ensures lowest { OnOk result (IsLowestTerms self.new.unit self.new.moments.items) }
         ensures fine { OnOk result (self.new.unit ≤ 2 ^ 116) }
-        ensures too_fine { (market : Market) → IsRunOf market lines.now self.old → IfErr result (λ e. IsTooFineIn market e.lcm) }
+        ensures too_fine { (market : Market) → IsRunOf market lines.now self.old
+            → IfErr result (λ e. IsTooFineIn market e.lcm) }
     {
         self.advance(1, 0);
         self.seat(lines);

@@ -18,16 +18,16 @@ use Rattle.scaled_matrix.proofs.Denominators.{one_least, front_le, fronts_rise, 
 use Rattle.scaled_matrix.proofs.Units.{units_exact, sums_rise}
 
 -- there are as many units as entries
-many_units : (given : SharesValue) (x : ScaledValue) → IsShares given → IsScaled given x → IsScaledMatrix x → length x.units ≡ length given.entries
-many_units given x lawful scaled matrix =
-    matrix.shape ∙ ap (λ n. n * x.columns) scaled.agents ∙ ap (λ n. length given.agents * n) scaled.columns ∙ sym lawful.shape
+many_units : (given : SharesValue) (x : ScaledValue) → IsScaled given x → length x.units ≡ length given.entries
+many_units given x scaled =
+    scaled.shape ∙ ap (λ n. n * x.columns) scaled.agents ∙ ap (λ n. length given.agents * n) scaled.columns ∙ sym scaled.entries
 
 -- so they are the entries in units
-pub units_are : (given : SharesValue) (x : ScaledValue) → IsShares given → IsScaled given x → IsScaledMatrix x → x.units ≡ units_in x.denominator given.entries
-units_are given x lawful scaled matrix =
+pub units_are : (given : SharesValue) (x : ScaledValue) → IsShares given → IsScaled given x → x.units ≡ units_in x.denominator given.entries
+units_are given x lawful scaled =
     let d = x.denominator in
     let entries = given.entries in
-    let many = many_units given x lawful scaled matrix in
+    let many = many_units given x scaled in
     let many' : length (units_in d entries) ≡ length entries = length-map entries (unit_of d) in
     same_lists x.units (units_in d entries) (many ∙ sym many')
     (λ k n within.
@@ -37,19 +37,19 @@ units_are given x lawful scaled matrix =
     let found = slice_get-get_or entries k zero_there known in
     let positive : 0 < s.den = (lawful.lawful k zero_there known).positive in
     let here : get_or x.units k 0 * s.den ≡ s.num * d = scaled.units k s found in
-    let there = units_exact d entries scaled.least.common k s found in
+    let there = units_exact d entries lawful.lawful scaled.least.common k s found in
     let same : get_or x.units k 0 ≡ get_or (units_in d entries) k 0 =
     eq_of_mul-eq-mul_right s.den positive (get_or x.units k 0) (get_or (units_in d entries) k 0) (here ∙ sym there) in
     get_or_default x.units k n 0 within ∙ same ∙ get_or_default (units_in d entries) k 0 n (omega arith))
 
 -- two scaled matrices of the same shares are equal
-pub one_scaled_matrix : (given : SharesValue) (x y : ScaledValue) → IsShares given → IsScaled given x → IsScaledMatrix x → IsScaled given y → IsScaledMatrix y → x ≡ y
-one_scaled_matrix given x y lawful scaled matrix scaled' matrix' =
+pub one_scaled_matrix : (given : SharesValue) (x y : ScaledValue) → IsShares given → IsScaled given x → IsScaled given y → x ≡ y
+one_scaled_matrix given x y lawful scaled scaled' =
     let one : x.denominator ≡ y.denominator = one_least given.entries x.denominator y.denominator scaled.least scaled'.least in
     let agents : x.agents ≡ y.agents = scaled.agents ∙ sym scaled'.agents in
     let columns : x.columns ≡ y.columns = scaled.columns ∙ sym scaled'.columns in
     let units : x.units ≡ y.units =
-    units_are given x lawful scaled matrix ∙ ap (λ d. units_in d given.entries) one ∙ sym (units_are given y lawful scaled' matrix') in
+    units_are given x lawful scaled ∙ ap (λ d. units_in d given.entries) one ∙ sym (units_are given y lawful scaled') in
     same_parts x.denominator y.denominator x.agents y.agents x.columns y.columns x.units y.units one agents columns units
   where
     same_parts : (d e a b c f : ℕ) (us vs : List ℕ) → d ≡ e → a ≡ b → c ≡ f → us ≡ vs
@@ -59,7 +59,7 @@ one_scaled_matrix given x y lawful scaled matrix scaled' matrix' =
 -- what is too fine at an entry is too fine
 pub too_fine_from_entry : (given : SharesValue) (denominator agent column : ℕ) → IsShares given → IsTooFineAt given denominator agent column → IsTooFine given
 too_fine_from_entry given denominator agent column lawful h =
-    let whole = least_there given.entries (λ k s within. (lawful.lawful k s within).positive) in
+    let whole = least_there given.entries lawful.lawful in
     let le : h.after ≤ whole.0 = front_le given.entries (h.k + 1) whole.0 h.after whole.1 h.after_least in
     let passes = h.after_passes in
     record { denominator = whole.0; least = whole.1; passes = omega arith }
@@ -83,7 +83,7 @@ within_total : (given : SharesValue) (x : ScaledValue) → IsShares given → Is
 within_total given x lawful scaled matrix h =
     let one : h.denominator ≡ x.denominator = one_least given.entries h.denominator x.denominator h.least scaled.least in
     let units : x.units ≡ units_in h.denominator given.entries =
-    units_are given x lawful scaled matrix ∙ ap (λ d. units_in d given.entries) (sym one) in
+    units_are given x lawful scaled ∙ ap (λ d. units_in d given.entries) (sym one) in
     let whole : sum x.units ≡ sum (units_in h.denominator given.entries) = ap sum units in
     let passes = h.passes in
     let total = matrix.total in
@@ -174,7 +174,7 @@ one_fault given NoMemory f lawful h h' = inl refl
 -- two answers for the same shares are equal, or one is want of memory
 pub one_answer : (given : SharesValue) (r s : Result ScaledValue ScaleFault) → IsShares given → IsScaleAnswer given r → IsScaleAnswer given s
     → (r ≡ Err NoMemory) ⊎ ((s ≡ Err NoMemory) ⊎ (r ≡ s))
-one_answer given (Ok x) (Ok y) lawful h h' = inr (inr (ap Ok (one_scaled_matrix given x y lawful h.0 h.1 h'.0 h'.1)))
+one_answer given (Ok x) (Ok y) lawful h h' = inr (inr (ap Ok (one_scaled_matrix given x y lawful h.0 h'.0)))
 one_answer given (Ok x) (Err f) lawful h h' = inr (inl (ap Err (no_fault_beside_matrix given x f lawful h.0 h.1 h')))
 one_answer given (Err e) (Ok y) lawful h h' = inl (ap Err (no_fault_beside_matrix given y e lawful h'.0 h'.1 h))
 one_answer given (Err e) (Err f) lawful h h' = elim (one_fault given e f lawful h h') [

@@ -1,5 +1,5 @@
 -- Shares in units over a denominator, and their sums.
-use Rattle.std.proofs.Common.{◌≡◌, ℕ, ◌+◌, ◌*◌, ◌/◌, ◌<◌, ◌≤◌, ◌∙◌, List, [], ◌∷◌, ◌++◌, length, get_or, take, ap, arith, All, mul_assoc}
+use Rattle.std.proofs.Common.{◌≡◌, ℕ, ◌+◌, ◌*◌, ◌/◌, ◌<◌, ◌≤◌, ◌∙◌, List, [], ◌∷◌, ◌++◌, length, get_or, take, ap, subst, arith, All, mul_assoc}
 use Rattle.std.specs.Prelude.{sum, slice_get, Some}
 use Rattle.std.specs.Int.{◌∣◌}
 use Rattle.std.proofs.Math.Nat.{mul-div_cancel', div-mul_cancel, mul-le-mul_right}
@@ -7,7 +7,9 @@ use Rattle.std.proofs.lemmas.List.{get_or-map, length-map, take_more, take-take}
 use Rattle.std.proofs.lemmas.List.Sums.{sum_by_push, sum_by-take-le}
 use Rattle.std.proofs.lemmas.Option.{slice_get_within, get_or_from_slice_get}
 use Rattle.definitions.specs.Values.{Ratio}
+use Rattle.scaled_matrix.specs.Entries.{IsShare}
 use Rattle.scaled_matrix.specs.Scaling.{unit_of, units_in}
+use Rattle.scaled_matrix.proofs.Denominators.{denominator_divides}
 
 -- a share of at most 1,000 is at most that in units
 pub unit_bound : (num den d : ℕ) → num ≤ 1000 * den → den ∣ d → num * (d / den) ≤ 1000 * d
@@ -20,14 +22,15 @@ unit_exact : (d : ℕ) (s : Ratio) → s.den ∣ d → unit_of d s * s.den ≡ s
 unit_exact d s divides = mul_assoc s.num (d / s.den) s.den ∙ ap (λ n. s.num * n) (div-mul_cancel s.den divides)
 
 -- the units are exact
-pub units_exact : (d : ℕ) (entries : List Ratio) → All (λ s. s.den ∣ d) entries → (k : ℕ) (s : Ratio) → slice_get entries k ≡ Some s
+pub units_exact : (d : ℕ) (entries : List Ratio) → All IsShare entries → All (λ s. s.den ∣ s.num * d) entries → (k : ℕ) (s : Ratio) → slice_get entries k ≡ Some s
     → get_or (units_in d entries) k 0 * s.den ≡ s.num * d
-units_exact d entries common k s found =
+units_exact d entries lawful common k s found =
     let within : k < length entries = slice_get_within entries k s found in
     let at : get_or entries k s ≡ s = get_or_from_slice_get entries k s s found in
     let unit : get_or (units_in d entries) k 0 ≡ unit_of d s = get_or-map (unit_of d) entries k s 0 within ∙ ap (unit_of d) at in
-    let divides : s.den ∣ d = rw at at (common k s within) in
-    ap (λ n. n * s.den) unit ∙ unit_exact d s divides
+    let share : IsShare s = subst IsShare at (lawful k s within) in
+    let whole : s.den ∣ s.num * d = subst (λ (r : Ratio). r.den ∣ r.num * d) at (common k s within) in
+    ap (λ n. n * s.den) unit ∙ unit_exact d s (denominator_divides d s share whole)
 
 -- the units of the first entries with one more
 pub units_more : (d : ℕ) (entries : List Ratio) (k : ℕ) (s : Ratio) → k < length entries → get_or entries k s ≡ s

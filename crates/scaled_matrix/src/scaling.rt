@@ -1,6 +1,7 @@
-//! The least common denominator of given shares, and the shares in units over it.
+//! The least common denominator of given shares, and the shares in units over it. Shares come as fractions in lowest
+//! terms: nothing here reads a text or reduces a fraction.
 
-ghost use Rattle.std.specs.Prelude.{◌≡◌, ◌*◌, ◌^◌, ◌<◌, ◌≤◌, length, sum, IfOk, IfErr};
+ghost use Rattle.std.specs.Prelude.{◌≡◌, ◌↔◌, ◌*◌, ◌^◌, ◌<◌, ◌≤◌, length, sum, IsTrue, IfOk, IfErr};
 ghost use Rattle.std.specs.Int.{◌∣◌};
 ghost use Rattle.frac128.specs.Fraction.{numerator, denominator as denominator_of};
 ghost use Rattle.definitions.specs.Scaling.{IsLeastCommonDenominator, IsScaled};
@@ -11,7 +12,7 @@ ghost use Rattle.scaled_matrix.specs.Scaling.{IsEntryOf, IsScaleFault, unit_of, 
 use crate::shares::Shares;
 use frac128::{Fraction, lcm_within};
 use quota_sets::Scaled;
-use std::alloc::{AllocError, Global};
+use std::alloc::{AllocError, AllocFailed, Global};
 use thiserror::Error;
 
 /// The greatest denominator.
@@ -57,6 +58,17 @@ impl From<AllocError> for ScaleFault {
     }
 }
 
+impl<T: Drop> From<AllocFailed<T>> for ScaleFault {
+    ghost use Rattle.std.specs.Prelude.{◌≡◌};
+    ghost use Rattle.scaled_matrix.specs.declared.scaling.ScaleFault.TheVariants.{NoMemory};
+
+    ghost from_gives = { λ _ e. e ≡ NoMemory };
+
+    fn from(_: AllocFailed<T>) -> ScaleFault {
+        ScaleFault::NoMemory
+    }
+}
+
 /// The shares in units over their least common denominator. Where that denominator passes 2^116 they are refused as
 /// `TooFine`; where it does not and the shares add up to more than 1,000, as `OverTotal`. `NoMemory` may come at any
 /// shares. There is one answer at most besides `NoMemory`.
@@ -73,7 +85,7 @@ pub fn scale(alloc: Global, shares: &Shares) -> Result<Scaled, ScaleFault>
     Ok(Scaled::new(denominator, agents, columns, units))
 }
 
-/// The least common denominator of all entries.
+/// The least common denominator of all entries. A fault of `lcm_within` gets the place of the entry.
 fn common_denominator(shares: &Shares) -> Result<u128, ScaleFault>
     requires { length shares.now.agents < 2 ^ 32 }
     ensures least { IfOk result (IsLeastCommonDenominator shares.now.entries) }
@@ -103,7 +115,8 @@ fn units_over(alloc: Global, shares: &Shares, denominator: u128) -> Result<Vec<u
     requires least { IsLeastCommonDenominator shares.now.entries denominator }
     requires fits { denominator ≤ 2 ^ 116 }
     requires few { length shares.now.agents < 2 ^ 32 }
-    ensures units { IfOk result (λ units. units.items ≡ units_in denominator shares.now.entries) }
+    ensures units { IfOk result
+        (λ units. units.items ≡ units_in denominator shares.now.entries) }
     ensures total { IfOk result (λ units. sum units.items ≤ 1000 * denominator) }
     ensures refused { IfErr result (IsScaleFault shares.now) }
 {
@@ -113,13 +126,21 @@ fn units_over(alloc: Global, shares: &Shares, denominator: u128) -> Result<Vec<u
     for (index, share) in entries.iter().enumerate() {
         let unit = unit_count(*share, denominator);
         total += unit;
-        if total > MOST * denominator {
+        if is_over_total(total, denominator) {
             let (agent, column) = place_of(shares, index);
             return Err(ScaleFault::OverTotal { agent, column });
         }
-        units.push(unit).map_err(AllocError::from)?;
+        units.push(unit)?;
     }
     Ok(units)
+}
+
+/// Whether units of which `denominator` make one are more than 1,000 in all.
+fn is_over_total(units: u128, denominator: u128) -> bool
+    requires { denominator ≤ 2 ^ 116 }
+    ensures { IsTrue result ↔ (1000 * denominator < units) }
+{
+    units > MOST * denominator
 }
 
 /// How many units a share is, of which `denominator` make one. The quotient comes first, so that no product wraps.

@@ -1,4 +1,4 @@
-//! Shares as they are given: a fraction for each agent and object.
+//! Shares as they are given: a fraction for each agent and object. Nothing here knows of denominators.
 
 ghost use Rattle.std.specs.Prelude.{◌≡◌, ◌*◌, ◌≤◌, length, All};
 ghost use Rattle.frac128.specs.Fraction.{numerator, denominator};

@@ -37,33 +37,3 @@ fn shares_and_scaling(rt: HostRuntime) -> Result<(), Fail> {
     }
     Ok(())
 }
-
-#[test]
-fn thirty_equal_shares(rt: HostRuntime) -> Result<(), Fail> {
-    let alloc = rt.alloc();
-    let entries = vec![in alloc; Fraction::new(1, 30); 30]?;
-    let x = scale(alloc, &row(alloc, entries)?)?;
-    assert_eq!(rt; x.denominator(), 30);
-    Ok(())
-}
-
-#[test]
-fn scaling_refused(rt: HostRuntime) -> Result<(), Fail> {
-    let alloc = rt.alloc();
-    let one_too_fine = (1 << 116) + 1;
-    let entries = vec![in alloc; Fraction::new(1, one_too_fine)]?;
-    let fault = ScaleFault::TooFine {
-        denominator: one_too_fine,
-        agent: 1,
-        column: 1,
-    };
-    assert_eq!(rt; scale(alloc, &row(alloc, entries)?).err(), Some(fault));
-
-    let entries = vec![in alloc; Fraction::new(1000, 1), Fraction::new(1, 1)]?;
-    let fault = ScaleFault::OverTotal {
-        agent: 1,
-        column: 2,
-    };
-    assert_eq!(rt; scale(alloc, &row(alloc, entries)?).err(), Some(fault));
-    Ok(())
-}

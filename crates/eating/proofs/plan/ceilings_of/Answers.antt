@@ -3,8 +3,8 @@ use Rattle.std.proofs.lemmas.List.{take_all}
 use Rattle.eating.proofs.Counts.{ceilings_whole}
 use Rattle.eating.proofs.plan.ceilings_of.Goals as goal
 
-pub overflow_add-slots : goal.overflow_add-slots
-overflow_add-slots c = omega (arith, c.len.ensures, c.in_ok-ceilings.ceilings.small, c.capped_total.ensures.few)
+pub overflow_add-limits : goal.overflow_add-limits
+overflow_add-limits c = omega (arith, c.len.ensures, c.in_ok-ceilings.ceilings.small, c.capped_total.ensures.few)
 
 pub returns : goal.returns
 returns c =

@@ -2,8 +2,8 @@ use Rattle.std.proofs.Common.{◌≡◌, ◌<◌, ◌++◌, ◌∷◌, [], arith
 use Rattle.std.proofs.lemmas.List.{take_more, take_all, map-append}
 use Rattle.definitions.specs.Values.{list_at}
 use Rattle.eating.specs.Holders.{made_holders}
-use Rattle.eating.proofs.Counts.{slots_few}
-use Rattle.eating.proofs.Lines.{line_right, line_slots, made_more, made_none}
+use Rattle.eating.proofs.Counts.{limits_few}
+use Rattle.eating.proofs.Lines.{line_right, line_limits, made_more, made_none}
 use Rattle.eating.proofs.plan.line_of.Goals as goal
 
 pub loop-place-init : goal.loop-place-init
@@ -14,7 +14,7 @@ loop-place-init c = record {
 
 pub holders_of-requires-clause-room : goal.holders_of-requires-clause-room
 holders_of-requires-clause-room c =
-    let few = slots_few c.args.problem.now c.list-list.ensures.lawful in
+    let few = limits_few c.args.problem.now c.list-list.ensures.lawful in
     omega (arith, few, c.requires.room, c.capped_cells-caps.ensures)
 
 pub loop-place-preserved : goal.loop-place-preserved
@@ -40,11 +40,11 @@ returns-clause-line c =
     c.demand.ensures.value (c.loop-place.invariant.columns ∙ take_all c.loop-place.place list (omega arith))
     (c.loop-place.invariant.holders ∙ ap (made_holders c.args.problem.now c.args.trees.now c.args.agent c.args.capped c.capped_cells-caps.result) all)
 
-pub returns-clause-slots : goal.returns-clause-slots
-returns-clause-slots c =
+pub returns-clause-limits : goal.returns-clause-limits
+returns-clause-limits c =
     let list = list_at c.args.problem.now c.args.agent in
     let all : c.loop-place.place ≡ length list = omega (arith, c.loop-place-test.false, c.loop-place.auto.place-end, ap length c.list-list.ensures.value) in
-    line_slots c.args.problem.now c.list-list.ensures.lawful c.args.trees.now c.requires.trees c.args.agent c.requires.agent c.args.capped c.capped_cells-caps.result c.requires.capped c.capped_cells-caps.ensures
+    line_limits c.args.problem.now c.list-list.ensures.lawful c.args.trees.now c.requires.trees c.args.agent c.requires.agent c.args.capped c.capped_cells-caps.result c.requires.capped c.capped_cells-caps.ensures
     (record { demand = c.demand.result; columns = c.loop-place.columns.items; holders = map (λ h. h.items) c.loop-place.holders.items })
     c.demand.ensures.value (c.loop-place.invariant.columns ∙ take_all c.loop-place.place list (omega arith))
     (c.loop-place.invariant.holders ∙ ap (made_holders c.args.problem.now c.args.trees.now c.args.agent c.args.capped c.capped_cells-caps.result) all)

@@ -5,8 +5,8 @@ use Rattle.std.proofs.lemmas.Option.{same_Some}
 use Rattle.definitions.specs.Values.{Agent, demand_at, list_at, market_of, limits_of}
 use Rattle.definitions.proofs.Problems.{agent_of}
 use Rattle.eating.specs.Plan.{IsLine, IsLineOf}
-use Rattle.eating.proofs.Counts.{caps_more, caps_room, slots_few}
-use Rattle.eating.proofs.Slots.{limits_many}
+use Rattle.eating.proofs.Counts.{caps_more, caps_room, limits_few}
+use Rattle.eating.proofs.Limits.{limits_many}
 use Rattle.eating.proofs.Lines.{each_push, lines_right}
 use Rattle.eating.proofs.plan.lines_of.Goals as goal
 
@@ -14,13 +14,13 @@ pub line_of-requires-clause-room : goal.line_of-requires-clause-room
 line_of-requires-clause-room c =
     let p = c.args.problem.now in
     let inside : c.loop-agent.agent < length p.agents = omega (arith, c.loop-agent-test.true, c.len-agent-end.ensures.value, ap length c.agents.ensures.value) in
-    omega (arith, caps_room p c.loop-agent.agent c.agents.ensures.lawful inside, limits_many p c.agents.ensures.lawful, c.loop-agent.invariant.slots)
+    omega (arith, caps_room p c.loop-agent.agent c.agents.ensures.lawful inside, limits_many p c.agents.ensures.lawful, c.loop-agent.invariant.limits)
 
-pub overflow_add-slots : goal.overflow_add-slots
-overflow_add-slots c =
+pub overflow_add-limits : goal.overflow_add-limits
+overflow_add-limits c =
     let p = c.args.problem.now in
     let inside : c.loop-agent.agent < length p.agents = omega (arith, c.loop-agent-test.true, c.len-agent-end.ensures.value, ap length c.agents.ensures.value) in
-    omega (arith, caps_room p c.loop-agent.agent c.agents.ensures.lawful inside, limits_many p c.agents.ensures.lawful, c.loop-agent.invariant.slots, slots_few p c.agents.ensures.lawful, c.capped_cells.ensures)
+    omega (arith, caps_room p c.loop-agent.agent c.agents.ensures.lawful inside, limits_many p c.agents.ensures.lawful, c.loop-agent.invariant.limits, limits_few p c.agents.ensures.lawful, c.capped_cells.ensures)
 
 pub loop-agent-preserved : goal.loop-agent-preserved
 loop-agent-preserved c =
@@ -31,7 +31,7 @@ loop-agent-preserved c =
     let items = c.in_ok-push.ensures.items in
     let inv = c.loop-agent.invariant in
     record {
-      slots = omega (arith, more, inv.slots, c.capped_cells.ensures);
+      limits = omega (arith, more, inv.limits, c.capped_cells.ensures);
       many = ap length items ∙ length_push c.loop-agent.lines.items c.in_ok-line_of.field-0 ∙ ap (λ k. k + 1) inv.many;
       each = λ i w line at is.
           each_push (λ i line. (w : Agent) → slice_get (market_of p).agents i ≡ Some w → IsLineOf (market_of p) i w line) c.loop-agent.lines.items c.in_ok-line_of.field-0
@@ -40,7 +40,7 @@ loop-agent-preserved c =
           (λ w at. subst (λ v. IsLineOf (market_of p) n v c.in_ok-line_of.field-0) (same_Some (record { demand = demand_at p n; list = list_at p n }) w (sym (agent_of p n c.agents.ensures.lawful inside) ∙ at)) c.in_ok-line_of.ensures.line))
           i line (subst (λ xs. slice_get xs i ≡ Some line) items is) w at;
       lines = λ i line is.
-          each_push (λ i line. IsLine (length (limits_of p)) line) c.loop-agent.lines.items c.in_ok-line_of.field-0 inv.lines c.in_ok-line_of.ensures.slots i line (subst (λ xs. slice_get xs i ≡ Some line) items is);
+          each_push (λ i line. IsLine (length (limits_of p)) line) c.loop-agent.lines.items c.in_ok-line_of.field-0 inv.lines c.in_ok-line_of.ensures.limits i line (subst (λ xs. slice_get xs i ≡ Some line) items is);
     }
 
 pub returns : goal.returns

@@ -1,5 +1,5 @@
 use Rattle.std.proofs.Common.{◌-◌, ◌∙◌, ◌∷◌, ◌++◌, [], ap, sym, map, append_assoc}
-use Rattle.definitions.specs.Hierarchies.{chain_of}
+use Rattle.definitions.specs.Trees.{chain_of}
 use Rattle.side_laws.proofs.Trees.{parent_known}
 use Rattle.eating.proofs.Walks.{chain_next, chain_end, chain_shorter}
 use Rattle.eating.proofs.plan.stated_holders.Goals as goal

@@ -1,5 +1,5 @@
 use Rattle.std.proofs.Common.{◌≡◌, ℕ, ◌-◌, ◌++◌, length, map, Some}
-use Rattle.definitions.specs.Hierarchies.{chain_of}
+use Rattle.definitions.specs.Trees.{chain_of}
 use Rattle.definitions.specs.Sets.{IsSet}
 use Rattle.eating.specs.Holders.{chain_at}
 use Rattle.eating.proofs.plan.stated_holders.Given as goal

@@ -3,21 +3,21 @@ use Rattle.eating_laws.proofs.Holders.{least_le}
 use Rattle.eating.proofs.Leasts.{least_more, least_all}
 use Rattle.eating.proofs.progress.least_of.Goals as goal
 
-pub loop-slot-init : goal.loop-slot-init
-loop-slot-init c = record {
+pub loop-limit-init : goal.loop-limit-init
+loop-limit-init c = record {
   low = omega arith;
   rest = (let le = least_le c.args.unit c.args.moments.now c.args.holders.now in omega (arith, le));
 }
 
-pub loop-slot-preserved : goal.loop-slot-preserved
-loop-slot-preserved c =
-    let more = least_more c.args.unit c.args.moments.now c.args.holders.now c.loop-slot.slot-index (omega arith) in
+pub loop-limit-preserved : goal.loop-limit-preserved
+loop-limit-preserved c =
+    let more = least_more c.args.unit c.args.moments.now c.args.holders.now c.loop-limit.limit-index (omega arith) in
     record {
-      low = grind (arith, c.min-least.ensures, c.loop-slot.invariant.low);
-      rest = grind (arith, c.min-least.ensures, more, c.loop-slot.invariant.rest);
+      low = grind (arith, c.min-least.ensures, c.loop-limit.invariant.low);
+      rest = grind (arith, c.min-least.ensures, more, c.loop-limit.invariant.rest);
     }
 
 pub returns : goal.returns
 returns c =
-    let all = least_all c.args.unit c.args.moments.now c.args.holders.now c.loop-slot.slot-index (omega arith) in
-    omega (arith, all, c.loop-slot.invariant.rest, c.loop-slot.invariant.low)
+    let all = least_all c.args.unit c.args.moments.now c.args.holders.now c.loop-limit.limit-index (omega arith) in
+    omega (arith, all, c.loop-limit.invariant.rest, c.loop-limit.invariant.low)

@@ -3,8 +3,8 @@ use Rattle.std.specs.Prelude.{min}
 use Rattle.eating_laws.proofs.Holders.{least_of}
 use Rattle.eating.proofs.progress.least_of.Given as goal
 
-abbrev pub invariant-loop-slot : goal.invariant-loop-slot
-invariant-loop-slot l = record {
+abbrev pub invariant-loop-limit : goal.invariant-loop-limit
+invariant-loop-limit l = record {
   low : l.least ≤ l.unit;
-  rest : min l.least (least_of l.unit l.moments (drop l.slot-index l.holders)) ≡ least_of l.unit l.moments l.holders;
+  rest : min l.least (least_of l.unit l.moments (drop l.limit-index l.holders)) ≡ least_of l.unit l.moments l.holders;
 }

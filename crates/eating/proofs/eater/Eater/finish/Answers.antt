@@ -29,7 +29,7 @@ serve-requires-clause-lines c =
     let eater = c.requires.2 in
     let run = subst (λ lines. IsRunOf (market_of p) lines c.args.self.progress) (sym c.deref.ensures.value) (eater_run p c.requires.1 c.args.self eater) in
     let size = (c.in_ok-eat.ensures.table (market_of p) run).size in
-    subst (λ lines. AreLines (length c.deref-3.result.now) lines) (sym c.deref-2.ensures.value) (subst (λ n. AreLines n c.args.self.lines.items) (sym size ∙ sym (ap length c.deref-3.ensures.value)) eater.lines.slots)
+    subst (λ lines. AreLines (length c.deref-3.result.now) lines) (sym c.deref-2.ensures.value) (subst (λ n. AreLines n c.args.self.lines.items) (sym size ∙ sym (ap length c.deref-3.ensures.value)) eater.lines.limits)
 
 pub serve-requires-clause-lists : goal.serve-requires-clause-lists
 serve-requires-clause-lists c = subst (AreListsWithin c.args.self.columns) (sym c.deref-2.ensures.value) (eater_lists c.requires.0 c.requires.1 c.args.self c.requires.2)
@@ -45,7 +45,7 @@ serve_caps-requires-clause-lines c =
     let eater = c.requires.2 in
     let run = subst (λ lines. IsRunOf (market_of p) lines c.args.self.progress) (sym c.deref.ensures.value) (eater_run p c.requires.1 c.args.self eater) in
     let size = (c.in_ok-eat.ensures.table (market_of p) run).size in
-    subst (λ lines. AreLines (length c.deref-5.result.now) lines) (sym c.deref-4.ensures.value) (subst (λ n. AreLines n c.args.self.lines.items) (sym size ∙ sym (ap length c.deref-5.ensures.value)) eater.lines.slots)
+    subst (λ lines. AreLines (length c.deref-5.result.now) lines) (sym c.deref-4.ensures.value) (subst (λ n. AreLines n c.args.self.lines.items) (sym size ∙ sym (ap length c.deref-5.ensures.value)) eater.lines.limits)
 
 pub serve_caps-requires-clause-lists : goal.serve_caps-requires-clause-lists
 serve_caps-requires-clause-lists c = subst (AreListsWithin c.args.self.columns) (sym c.deref-4.ensures.value) (eater_lists c.requires.0 c.requires.1 c.args.self c.requires.2)

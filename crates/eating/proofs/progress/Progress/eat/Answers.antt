@@ -10,7 +10,7 @@ pub seat-requires-clause-so_far : goal.seat-requires-clause-so_far
 seat-requires-clause-so_far c = start_so_far c.requires.0 c.args.lines.now c.args.self.now c.advance.new.self c.requires.1 c.advance.ensures.places
 
 pub loop-moment-init : goal.loop-moment-init
-loop-moment-init c market run = start_at market c.args.lines.now c.args.self.now c.advance.new.self c.seat.new.self run c.advance.ensures.unit c.advance.ensures.at c.advance.ensures.slots c.seat.ensures
+loop-moment-init c market run = start_at market c.args.lines.now c.args.self.now c.advance.new.self c.seat.new.self run c.advance.ensures.unit c.advance.ensures.at c.advance.ensures.limits c.seat.ensures
 
 pub next_moment-requires : goal.next_moment-requires
 next_moment-requires c = (let run = c.requires.1 in at_within c.requires.0 c.args.lines.now run.lines_of run.small c.loop-moment.self (c.loop-moment.invariant c.requires.0 run))

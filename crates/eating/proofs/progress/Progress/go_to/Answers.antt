@@ -60,7 +60,7 @@ returns-clause-step c =
       at = c.advance.ensures.at;
       least = subst (λ n. IsLcm old.unit (denominator c.args.moment) n) (sym same) (subst (λ n. IsLcm old.unit n unit) c.den.ensures c.in_ok-unit.ensures.within.0);
       value = ap (λ n. n * denominator c.args.moment) there ∙ g.value ∙ ap (λ n. numerator c.args.moment * n) (sym same);
-      slots = c.advance.ensures.slots;
+      limits = c.advance.ensures.limits;
       speeds = c.advance.ensures.speeds;
       places = c.advance.ensures.places;
     }

@@ -1,5 +1,5 @@
 use Rattle.std.proofs.Common.{arith, mul-le-mul_left}
-use Rattle.eating.proofs.progress.Step.slot.Goals as goal
+use Rattle.eating.proofs.progress.Step.limit.Goals as goal
 
 pub overflow_mul-left : goal.overflow_mul-left
 overflow_mul-left c =

@@ -1,4 +1,4 @@
--- The slots of a place are those of the limits that hold its cell.
+-- The limits that are noted at a place are those that hold its cell.
 use Rattle.std.proofs.Common.{◌≡◌, ◌≢◌, ℕ, suc, zero, ◌+◌, ◌-◌, ◌<◌, ◌≤◌, ◌++◌, List, [], ◌∷◌, Bool, true, false, cond, length, map, take, get_or, refl, ap, sym, ◌∙◌, subst, arith, inl, inr, length-take, length-append}
 use Rattle.std.specs.Prelude.{nat_eq, nat_le, nat_lt, slice_index, count_by, sum_by, ◌==◌, All}
 use Rattle.std.specs.List.{AllByRecursion}
@@ -8,9 +8,9 @@ use Rattle.std.proofs.lemmas.List.{length-map, get_or-take}
 use Rattle.std.proofs.lemmas.List.Elements.{All-append, All-from_recursion}
 use Rattle.std.proofs.lemmas.List.Sums.{sum_by-cons, sum_by-append}
 use Rattle.definitions.specs.Sets.{cell_of, holds, SetValue, IsSet, IsCellWithin, set_cells}
-use Rattle.definitions.specs.Hierarchies.{TreesValue, AreTreesOf}
+use Rattle.definitions.specs.Trees.{TreesValue, AreTreesOf}
 use Rattle.definitions.specs.Values.{Limit, Agent, ProblemValue, IsProblem, capped_limits, market_of, limits_of, stated_sets, list_at, demand_at}
-use Rattle.definitions.specs.Eating.{slot_cells}
+use Rattle.definitions.specs.Eating.{limit_cells}
 use Rattle.definitions.proofs.Members.{number_test, member_at}
 use Rattle.definitions.proofs.Families.{sets_of_problem, no_set, cells_of_set}
 use Rattle.definitions.proofs.Sums.{single}
@@ -25,14 +25,14 @@ use Rattle.eating.specs.Holders.{chain_at}
 use Rattle.eating.proofs.Capped.{one_place, cells_left, cells_right, cap_found, cap_holds}
 use Rattle.eating.proofs.Counts.{capped_length, caps_room}
 
--- set s stands in slot s - 1
-slots_counted : (j : ℕ) (chain : List ℕ) → AllByRecursion (λ s. 0 < s) chain → count_by (λ h. h == j) (map (λ s. s - 1) chain) ≡ sum_by (λ y. cond (nat_eq (j + 1) y) 1 0) chain
-slots_counted j [] h = refl
-slots_counted j (s ∷ chain) h =
+-- set s is limit s - 1
+limits_counted : (j : ℕ) (chain : List ℕ) → AllByRecursion (λ s. 0 < s) chain → count_by (λ h. h == j) (map (λ s. s - 1) chain) ≡ sum_by (λ y. cond (nat_eq (j + 1) y) 1 0) chain
+limits_counted j [] h = refl
+limits_counted j (s ∷ chain) h =
     sum_by-cons (λ x. cond (x == j) 1 0) (s - 1) (map (λ s. s - 1) chain)
     ∙ (let p : 0 < s = h.0 in
     let bit : cond {A = ℕ} (s - 1 == j) 1 0 ≡ cond {A = ℕ} (nat_eq (j + 1) s) 1 0 = same s p in
-    let rest = slots_counted j chain h.1 in
+    let rest = limits_counted j chain h.1 in
     omega (arith, bit, rest)) ∙ sym (sum_by-cons (λ y. cond (nat_eq (j + 1) y) 1 0) s chain)
   where
     same : (s : ℕ) → 0 < s → cond {A = ℕ} (s - 1 == j) 1 0 ≡ cond {A = ℕ} (nat_eq (j + 1) s) 1 0
@@ -57,14 +57,14 @@ module _ (p : ProblemValue) (h : IsProblem p) where
   stated_many : length stated_limits ≡ p.stated
   stated_many = length-map (stated_sets p) (λ (s : SetValue). record { ceiling = s.ceiling; cells = s.cells }) ∙ stated_count
 
-  -- the number of slots
+  -- the number of limits
   pub limits_many : length (limits_of p) ≡ p.stated + caps_before (market_of p).agents
   limits_many = length-append stated_limits (capped_limits 0 (market_of p).agents)
       ∙ ap (λ n. n + length (capped_limits 0 (market_of p).agents)) stated_many ∙ ap (λ n. p.stated + n) (capped_length 0 (market_of p).agents)
 
-  -- the slot of a stated set has its cells
-  stated_slot : (j : ℕ) → j < p.stated → slot_cells (market_of p) j ≡ set_cells p.family (j + 1)
-  stated_slot j l =
+  -- the limit of a stated set has the set's cells
+  stated_limit : (j : ℕ) → j < p.stated → limit_cells (market_of p) j ≡ set_cells p.family (j + 1)
+  stated_limit j l =
       let many = sets_of_problem p h in
       let known : IsSet p.family (j + 1) = (omega arith, omega (arith, many)) in
       let place : j + 1 - 1 ≡ j = omega arith in
@@ -73,9 +73,9 @@ module _ (p : ProblemValue) (h : IsProblem p) where
       ∙ ap (λ n. (get_or p.family.sets n no_set).cells) (sym place)
       ∙ sym (cells_of_set p.family (j + 1) known no_set)
 
-  -- and the later slots those of the capped cells
-  capped_slot : (j : ℕ) → p.stated ≤ j → slot_cells (market_of p) j ≡ cells_at (capped_limits 0 (market_of p).agents) (j - p.stated)
-  capped_slot j l = cells_right stated_limits (capped_limits 0 (market_of p).agents) j (j - p.stated) (omega (arith, l, stated_many))
+  -- and the later limits have the capped cells
+  capped_limit : (j : ℕ) → p.stated ≤ j → limit_cells (market_of p) j ≡ cells_at (capped_limits 0 (market_of p).agents) (j - p.stated)
+  capped_limit j l = cells_right stated_limits (capped_limits 0 (market_of p).agents) j (j - p.stated) (omega (arith, l, stated_many))
 
   module _ (t : TreesValue) (r : AreTreesOf p.family t) (i k : ℕ) (known_agent : i < length p.agents) (place : k < length (list_at p i)) where
     abbrev column : ℕ
@@ -120,17 +120,17 @@ module _ (p : ProblemValue) (h : IsProblem p) where
     chain_positive [] f = tt
     chain_positive (s ∷ xs) f = (f.0.0, chain_positive xs f.1)
 
-    slots_inside : (xs : List ℕ) → AllByRecursion (λ s. (0 < s) × (s ≤ p.stated)) xs → AllByRecursion (λ x. x < length (limits_of p)) (map (λ s. s - 1) xs)
-    slots_inside [] f = tt
-    slots_inside (s ∷ xs) f = (let low = f.0.0 in let high = f.0.1 in omega (arith, low, high, limits_many), slots_inside xs f.1)
+    limits_inside : (xs : List ℕ) → AllByRecursion (λ s. (0 < s) × (s ≤ p.stated)) xs → AllByRecursion (λ x. x < length (limits_of p)) (map (λ s. s - 1) xs)
+    limits_inside [] f = tt
+    limits_inside (s ∷ xs) f = (let low = f.0.0 in let high = f.0.1 in omega (arith, low, high, limits_many), limits_inside xs f.1)
 
     abbrev own : List ℕ
     own = cond (nat_lt k caps) ((p.stated + start + k) ∷ []) []
 
-    -- how often a slot is among those of the stated sets
+    -- how often a limit is among the stated sets of a chain
     stated_part : (j : ℕ) → count_by (λ x. x == j) (map (λ s. s - 1) chain) ≡ cond (is_member nat_eq chain (j + 1)) 1 0
     stated_part j =
-        slots_counted j chain (chain_positive chain (members chain (λ s m. m)))
+        limits_counted j chain (chain_positive chain (members chain (λ s m. m)))
         ∙ single nat_eq number_test (λ (y : ℕ). 1) (j + 1) chain (cell_chain_distinct p.family h.family.lawful t r 2 (cell_of i column) (inr refl) inside)
 
     own_part : (j : ℕ) → count_by (λ x. x == j) own ≡ cond (nat_lt k caps) (cond (p.stated + start + k == j) 1 0) 0
@@ -140,13 +140,13 @@ module _ (p : ProblemValue) (h : IsProblem p) where
         pick true = sum_by-cons (λ x. cond (x == j) 1 0) (p.stated + start + k) [] ∙ (let z : cond (p.stated + start + k == j) 1 0 + 0 ≡ cond {A = ℕ} (p.stated + start + k == j) 1 0 = omega arith in z)
         pick false = refl
 
-    -- a capped slot holds the cell exactly where it is the cell's own
-    own_holds : (j : ℕ) → p.stated ≤ j → cond (nat_lt k caps) (cond (p.stated + start + k == j) 1 0) 0 ≡ cond {A = ℕ} (holds (slot_cells (market_of p) j) (cell_of i column)) 1 0
-    own_holds j low = elim (cases_Bool (holds (slot_cells (market_of p) j) (cell_of i column))) [
+    -- a capped limit holds the cell exactly where it is the cell's own
+    own_holds : (j : ℕ) → p.stated ≤ j → cond (nat_lt k caps) (cond (p.stated + start + k == j) 1 0) 0 ≡ cond {A = ℕ} (holds (limit_cells (market_of p) j) (cell_of i column)) 1 0
+    own_holds j low = elim (cases_Bool (holds (limit_cells (market_of p) j) (cell_of i column))) [
       | inl held ↦
           let at = cap_found 0 i (market_of p).agents agent (j - p.stated) column (agent_of p i h known_agent)
           (subst (λ n. holds (cells_at (capped_limits 0 (market_of p).agents) (j - p.stated)) (cell_of n column) ≡ true) (let z : i ≡ 0 + i = omega arith in z)
-          (subst (λ c. holds c (cell_of i column) ≡ true) (capped_slot j low) held)) in
+          (subst (λ c. holds c (cell_of i column) ≡ true) (capped_limit j low) held)) in
           let short : caps ≤ length (list_at p i) = caps_short (nat_le 2 (demand_at p i)) in
           let same : j - p.stated - start ≡ k = one_place (list_at p i) (list_lawful p i h known_agent).apart (j - p.stated - start) k (let l = at.inside in omega arith) place at.column in
           let few : k < caps = (let l = at.inside in omega arith) in
@@ -155,8 +155,8 @@ module _ (p : ProblemValue) (h : IsProblem p) where
       | inr free ↦ elim (cases_lt k caps) [
         | inl few ↦
             let apart : p.stated + start + k ≢ j = λ e.
-            both_ways (holds (slot_cells (market_of p) j) (cell_of i column)) free
-            (subst (λ c. holds c (cell_of i column) ≡ true) (sym (capped_slot j low))
+            both_ways (holds (limit_cells (market_of p) j) (cell_of i column)) free
+            (subst (λ c. holds c (cell_of i column) ≡ true) (sym (capped_limit j low))
             (subst (λ n. holds (cells_at (capped_limits 0 (market_of p).agents) n) (cell_of i column) ≡ true) (let z : start + k ≡ j - p.stated = omega arith in z)
             (subst (λ n. holds (cells_at (capped_limits 0 (market_of p).agents) (start + k)) (cell_of n column) ≡ true) (let z : 0 + i ≡ i = omega arith in z)
             (cap_holds 0 i (market_of p).agents agent k column (agent_of p i h known_agent) few refl)))) in
@@ -169,11 +169,11 @@ module _ (p : ProblemValue) (h : IsProblem p) where
         caps_short true = omega arith
         caps_short false = omega arith
 
-    -- the slots of a place are the holders of its cell
-    pub slots_right : IsHolders (market_of p) i column (map (λ s. s - 1) chain ++ own)
-    slots_right = record {
+    -- the limits noted at a place are the holders of its cell
+    pub limits_right : IsHolders (market_of p) i column (map (λ s. s - 1) chain ++ own)
+    limits_right = record {
       inside = All-append (λ x. x < length (limits_of p)) (map (λ s. s - 1) chain) own
-          (All-from_recursion (λ x. x < length (limits_of p)) (map (λ s. s - 1) chain) (slots_inside chain (members chain (λ s m. m)))) own_inside;
+          (All-from_recursion (λ x. x < length (limits_of p)) (map (λ s. s - 1) chain) (limits_inside chain (members chain (λ s m. m)))) own_inside;
       once = λ j l. once j;
     }
       where
@@ -190,7 +190,7 @@ module _ (p : ProblemValue) (h : IsProblem p) where
           | inr none ↦ subst (λ b. All (λ x. x < length (limits_of p)) (cond b ((p.stated + start + k) ∷ []) [])) (sym (le-ltb k caps none)) (All-from_recursion (λ x. x < length (limits_of p)) [] tt)
         ]
 
-        once : (j : ℕ) → count_by (λ x. x == j) (map (λ s. s - 1) chain ++ own) ≡ cond (holds (slot_cells (market_of p) j) (cell_of i column)) 1 0
+        once : (j : ℕ) → count_by (λ x. x == j) (map (λ s. s - 1) chain ++ own) ≡ cond (holds (limit_cells (market_of p) j) (cell_of i column)) 1 0
         once j = sum_by-append (λ x. cond (x == j) 1 0) (map (λ s. s - 1) chain) own ∙ elim (cases_lt j p.stated) [
           | inl less ↦
               let many = sets_of_problem p h in
@@ -198,7 +198,7 @@ module _ (p : ProblemValue) (h : IsProblem p) where
               let pass = passes p.family h.family t r 2 (inr refl) (cell_of i column) inside (j + 1) known (stated_side p h (j + 1) known (omega arith)) in
               let apart : p.stated + start + k ≢ j = λ e. omega arith in
               let own_none : cond (nat_lt k caps) (cond (p.stated + start + k == j) 1 0) 0 ≡ 0 = none (nat_lt k caps) (ap {B = ℕ} (λ b. cond b 1 0) (ne_eqb (p.stated + start + k) j apart)) in
-              let held = ap {B = ℕ} (λ b. cond b 1 0) (sym pass ∙ ap (λ c. holds c (cell_of i column)) (sym (stated_slot j less))) in
+              let held = ap {B = ℕ} (λ b. cond b 1 0) (sym pass ∙ ap (λ c. holds c (cell_of i column)) (sym (stated_limit j less))) in
               omega (arith, stated_part j, own_part j, own_none, held)
           | inr more ↦
               let off : is_member nat_eq chain (j + 1) ≡ false = false_from_ne_true (is_member nat_eq chain (j + 1)) (λ m. (let x = (member_is (j + 1) m).1 in omega arith)) in

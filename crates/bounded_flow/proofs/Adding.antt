@@ -11,7 +11,7 @@ use Rattle.std.proofs.lemmas.List.Sums.{sum_by-take-drop}
 use Rattle.std.proofs.lemmas.Option.{slice_get_within}
 use Rattle.definitions.specs.declared.Cell.{Cell}
 use Rattle.definitions.specs.Sets.{SetValue, FamilyValue, IsCellWithin, IsFamily, IsSet, cells_of, set_cells, set_side, set_sum, unit_at, cell_of, cell_index, all_cells}
-use Rattle.definitions.specs.Hierarchies.{TreesValue, AreTreesOf, parent_at, deepest_at, chain_of}
+use Rattle.definitions.specs.Trees.{TreesValue, AreTreesOf, parent_at, deepest_at, chain_of}
 use Rattle.definitions.proofs.Cells.{cell_count, all_within}
 use Rattle.definitions.proofs.Families.{known_side}
 use Rattle.definitions.proofs.Lists.{each_below}

@@ -10,7 +10,8 @@ use Rattle.std.proofs.lemmas.List.Sums.{sum-map}
 use Rattle.std.proofs.lemmas.Nat.{mul-le}
 use Rattle.definitions.specs.Sets.{FamilyValue, ScaledValue, IsFamily, IsQuotaSet, IsScaledMatrix, IsCellWithin}
 use Rattle.definitions.specs.Rounding.{SideSet}
-use Rattle.definitions.specs.Hierarchies.{TreesValue, AreTreesOf}
+use Rattle.definitions.specs.Trees.{TreesValue, AreTreesOf}
+use Rattle.definitions.proofs.Families.{apart_of_bihierarchy}
 use Rattle.definitions.proofs.Sums.{sum_same_all, sum_zero}
 use Rattle.bounded_flow.specs.declared.edge.Edge.{Edge}
 use Rattle.bounded_flow.specs.declared.search.Adjacency.{Adjacency}
@@ -37,7 +38,7 @@ sets_of_family f t family r = record {
   columns_limit = family.columns_limit;
   sets_limit = (let m = length-map f.sets side_set in let limit = family.sets_limit in omega arith);
   sides = All-map (λ s. (s.side ≡ 1) ⊎ (s.side ≡ 2)) side_set f.sets (All-weaker IsQuotaSet (λ s. (s.side ≡ 1) ⊎ (s.side ≡ 2)) (λ s h. h.side) f.sets family.lawful);
-  apart = rw (map-map (λ (s : SideSet). s.cells) side_set f.sets, map-map (λ (s : SideSet). s.side) side_set f.sets) r.apart;
+  apart = rw (map-map (λ (s : SideSet). s.cells) side_set f.sets, map-map (λ (s : SideSet). s.side) side_set f.sets) (apart_of_bihierarchy f family.lawful r.apart);
   inside = All-map (λ s. All (IsCellWithin f.agents f.columns) s.cells) side_set f.sets family.inside;
 }
 

@@ -10,7 +10,7 @@ use Rattle.std.proofs.lemmas.List.Sums.{sum_by-set}
 use Rattle.definitions.proofs.Members.{distinct_first, distinct_rest}
 use Rattle.std.proofs.lemmas.Option.{MatchOption-at_some}
 use Rattle.definitions.specs.Sets.{FamilyValue, IsFamily, IsSet, set_side}
-use Rattle.definitions.specs.Hierarchies.{TreesValue, AreTreesOf, parent_at, chain_of}
+use Rattle.definitions.specs.Trees.{TreesValue, AreTreesOf, parent_at, chain_of}
 use Rattle.side_laws.proofs.Trees.{IsSetOrNone, parent_is, chain_keeps, chain_step, chain_none, parent_chain_without}
 use Rattle.bounded_flow.specs.declared.edge.Edge.{Edge}
 use Rattle.bounded_flow.specs.Edges.{wire}

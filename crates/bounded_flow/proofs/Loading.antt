@@ -9,7 +9,7 @@ use Rattle.std.proofs.lemmas.List.Elements.{All-map}
 use Rattle.std.proofs.lemmas.List.Sums.{get_or-le-sum_by}
 use Rattle.definitions.specs.declared.Cell.{Cell}
 use Rattle.definitions.specs.Sets.{FamilyValue, ScaledValue, units_of, IsFamily, IsSet, IsCellWithin, set_cells, set_side, set_sum, unit_at, cell_of, all_cells}
-use Rattle.definitions.specs.Hierarchies.{TreesValue, AreTreesOf, parent_at, deepest_at, chain_of}
+use Rattle.definitions.specs.Trees.{TreesValue, AreTreesOf, parent_at, deepest_at, chain_of}
 use Rattle.definitions.proofs.Cells.{all_within}
 use Rattle.definitions.proofs.Families.{known_side}
 use Rattle.definitions.proofs.Sums.{sum_same, sum_zero, sum_mapped, sum_le_all, sum_of_units, unit_at_within}

@@ -8,7 +8,7 @@ use Rattle.std.proofs.lemmas.Option.{get_or_from_slice_get, slice_get_within}
 use Rattle.definitions.specs.declared.Cell.{Cell}
 use Rattle.definitions.specs.Sets.{SetValue, FamilyValue, cell_of, cell_index, all_cells, IsSet, IsCellWithin}
 use Rattle.definitions.specs.Rounding.{SideSet}
-use Rattle.definitions.specs.Hierarchies.{TreesValue}
+use Rattle.definitions.specs.Trees.{TreesValue}
 use Rattle.definitions.proofs.Cells.{cell_in_place, cell_count}
 use Rattle.bounded_flow.specs.declared.edge.Edge.{Edge}
 use Rattle.bounded_flow.specs.declared.held.HeldSet.{HeldSet}

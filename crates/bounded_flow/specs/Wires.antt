@@ -4,7 +4,7 @@ use Rattle.std.specs.Prelude.{ℕ, ◌==◌, ◌++◌, List, length, map, Option
 use Rattle.std.specs.List.{range_with_len}
 use Rattle.definitions.specs.declared.Cell.{Cell}
 use Rattle.definitions.specs.Sets.{FamilyValue, all_cells, set_side}
-use Rattle.definitions.specs.Hierarchies.{TreesValue, parent_at, deepest_at}
+use Rattle.definitions.specs.Trees.{TreesValue, parent_at, deepest_at}
 
 -- the node of a set, or the root
 abbrev pub node_of : Option ℕ → ℕ

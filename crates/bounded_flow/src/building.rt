@@ -2,7 +2,7 @@
 
 ghost use Rattle.std.specs.Prelude.{◌≡◌, ◌+◌, ◌*◌, ◌/◌, ◌%◌, ◌^◌, ◌<◌, ◌≤◌, ◌++◌, length, map, All, IfOk, IfSome, OnOk};
 ghost use Rattle.std.specs.List.Sorted.{IsNonDecreasingBy};
-ghost use Rattle.definitions.specs.Hierarchies.{AreTreesOf, chain_of};
+ghost use Rattle.definitions.specs.Trees.{AreTreesOf, chain_of};
 ghost use Rattle.definitions.specs.Sets.{IsSet, cell_of};
 ghost use Rattle.bounded_flow.specs.Edges.{wire};
 ghost use Rattle.bounded_flow.specs.Flows.{IsInside};

@@ -1,7 +1,7 @@
 //! Nets: what is left of a matrix, and a whole matrix that rounds it.
 
 ghost use Rattle.std.specs.Prelude.{◌≡◌, ℕ, ◌+◌, ◌*◌, ◌<◌, ◌≤◌, length, slice_index, IfOk};
-ghost use Rattle.definitions.specs.Hierarchies.{AreTreesOf};
+ghost use Rattle.definitions.specs.Trees.{AreTreesOf};
 ghost use Rattle.definitions.specs.Rounding.{Rounds};
 ghost use Rattle.definitions.specs.Sets.{IsCellWithin, cell_index, cells_at, set_sum, unit_at};
 ghost use Rattle.rounding_laws.specs.Remainders.{AllAllow, IsTight};

@@ -6,7 +6,9 @@ use Rattle.std.proofs.lemmas.List.Elements.{All-push, All-map}
 use Rattle.definitions.specs.declared.Give.{Give}
 use Rattle.definitions.specs.declared.Piece.{Piece}
 use Rattle.definitions.specs.Values.{PieceValue, piece_value}
-use Rattle.definitions.specs.Pieces.{WeightedMatrix, PeelerValue, sets_of, IsStep, Decomposes, piece_of_matrix, pieces_of, gives_of, weighted_pieces}
+use Rattle.definitions.specs.Gives.{piece_of_matrix, pieces_of, gives_of}
+use Rattle.definitions.specs.Peelings.{PeelerValue, sets_of, IsStep}
+use Rattle.definitions.specs.Pieces.{WeightedMatrix, Decomposes, weighted_pieces}
 use Rattle.definitions.proofs.Gives.{AreShaped, weighted_back, all_gives_lawful}
 use Rattle.definitions.proofs.Sums.{sum_mapped}
 use Rattle.rounding_laws.proofs.Peeling.{piece}

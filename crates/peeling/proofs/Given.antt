@@ -8,7 +8,8 @@ use Rattle.std.proofs.lemmas.Nat.{mul-le}
 use Rattle.definitions.specs.declared.Cell.{Cell}
 use Rattle.definitions.specs.Sets.{FamilyValue, ScaledValue, cells_of, set_sum, unit_at}
 use Rattle.definitions.specs.Rounding.{Rounds, SideSet, is_fractional}
-use Rattle.definitions.specs.Pieces.{WeightedMatrix, PeelerValue, sets_of, IsStep, Peeled, Decomposes}
+use Rattle.definitions.specs.Peelings.{PeelerValue, sets_of, IsStep, Peeled}
+use Rattle.definitions.specs.Pieces.{WeightedMatrix, Decomposes}
 use Rattle.definitions.proofs.Gives.{AreShaped}
 use Rattle.rounding_laws.proofs.Peeling.{piece, peeled_start, peeled_step, peeled_end}
 use Rattle.rounding_laws.proofs.Rounded.{rounded_within}

@@ -3,7 +3,8 @@ use Rattle.std.proofs.Common.{◌≡◌, ℕ, suc, zero, ◌+◌, ◌*◌, ◌/�
 use Rattle.std.specs.Prelude.{◌==◌, if◌then◌else◌}
 use Rattle.std.proofs.lemmas.List.{take_all}
 use Rattle.definitions.specs.declared.Give.{Give}
-use Rattle.definitions.specs.Pieces.{PeelerValue, gives_along, gives_of}
+use Rattle.definitions.specs.Gives.{gives_along, gives_of}
+use Rattle.definitions.specs.Peelings.{PeelerValue}
 use Rattle.peeling.specs.Peelers.{IsPeeler, AreGivesBefore}
 use Rattle.peeling.proofs.Given.{shown_shape}
 

@@ -4,7 +4,7 @@ use Rattle.std.specs.Prelude.{slice_index, ◌==◌, if◌then◌else◌}
 use Rattle.std.proofs.lemmas.Bool.{cases_lt, ne_eqb}
 use Rattle.definitions.specs.declared.Cell.{Cell}
 use Rattle.definitions.specs.Rounding.{Rounds}
-use Rattle.definitions.specs.Pieces.{PeelerValue, IsStep}
+use Rattle.definitions.specs.Peelings.{PeelerValue, IsStep}
 use Rattle.rounding_laws.specs.Remainders.{AllAllow, IsGreatestTake, IsTight}
 use Rattle.rounding_laws.proofs.Taken.{greatest_of_tight}
 use Rattle.rounding_laws.proofs.Remainder.{remainder_rounds_whole}

@@ -4,7 +4,9 @@ use Rattle.definitions.specs.declared.Give.{Give}
 use Rattle.definitions.specs.declared.Pieces.{Pieces}
 use Rattle.definitions.specs.Sets.{FamilyValue, ScaledValue, IsCellWithin, NoCrossing}
 use Rattle.definitions.specs.Values.{PieceValue, piece_value}
-use Rattle.definitions.specs.Pieces.{PeelerValue, sets_of, Decomposes, weighted_pieces, gives_along, AreGives}
+use Rattle.definitions.specs.Gives.{gives_along}
+use Rattle.definitions.specs.Peelings.{PeelerValue, sets_of}
+use Rattle.definitions.specs.Pieces.{Decomposes, weighted_pieces, AreGives}
 use Rattle.bounded_flow.specs.Nets.{side_sets}
 
 -- a lawful decomposition under way: sets in range with sides 1 or 2, of which no two of one side cross, within the limits; one number

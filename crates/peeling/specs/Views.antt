@@ -1,6 +1,6 @@
 -- What contracts see of a decomposition under way.
 use Rattle.std.specs.Prelude.{ℕ, ◌==◌, if◌then◌else◌, None, Some}
-use Rattle.definitions.specs.Pieces.{PeelerValue}
+use Rattle.definitions.specs.Peelings.{PeelerValue}
 use Rattle.bounded_flow.specs.Nets.{NetValue}
 
 -- a net with the weights given: its whole matrix is the piece last given, if any weight was given

@@ -1,7 +1,7 @@
 //! All pieces of a decomposition in a list.
 
 ghost use Rattle.std.specs.Prelude.{◌≡◌, ℕ, ◌+◌, ◌*◌, ◌<◌, ◌==◌, ◌++◌, [], ◌∷◌, List, IfOk, OnOk, IsSome, Some, if◌then◌else◌};
-ghost use Rattle.definitions.specs.Pieces.{gives_of};
+ghost use Rattle.definitions.specs.Gives.{gives_of};
 ghost use Rattle.peeling.specs.Peelers.{AreGivesBefore, ArePiecesOf, IsLater, pieces_value};
 
 use crate::peeler::Peeler;

@@ -2,8 +2,8 @@
 
 ghost use Rattle.std.specs.Prelude.{◌≡◌, ℕ, ◌<◌, List, IfOk, IsSome, MatchOption, Some, slice_index};
 ghost use Rattle.definitions.specs.Sets.{IsCellWithin, cell_index};
-ghost use Rattle.definitions.specs.Hierarchies.{AreTreesOf};
-ghost use Rattle.definitions.specs.Pieces.{IsStep};
+ghost use Rattle.definitions.specs.Trees.{AreTreesOf};
+ghost use Rattle.definitions.specs.Peelings.{IsStep};
 ghost use Rattle.peeling.specs.Peelers.{IsPeeler, IsStart};
 
 use bihierarchy::Trees;
@@ -25,7 +25,7 @@ pub struct Peeler {
 
 impl Model for Peeler {
     ghost use Rattle.std.specs.Prelude.{◌==◌, if◌then◌else◌, None, Some};
-    ghost use Rattle.definitions.specs.Pieces.{PeelerValue};
+    ghost use Rattle.definitions.specs.Peelings.{PeelerValue};
     ghost use Rattle.peeling.specs.Peelers.{IsPeeler};
     ghost use Rattle.peeling.specs.Views.{peeler_of};
 

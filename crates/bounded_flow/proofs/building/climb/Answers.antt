@@ -1,5 +1,5 @@
 use Rattle.std.proofs.Common.{◌≡◌, ◌+◌, ◌-◌, ◌*◌, ◌<◌, ◌∙◌, length, sym, ap, refl, arith, length-set}
-use Rattle.definitions.specs.Hierarchies.{chain_of, parent_at}
+use Rattle.definitions.specs.Trees.{chain_of, parent_at}
 use Rattle.side_laws.proofs.Trees.{parent_known}
 use Rattle.bounded_flow.specs.declared.edge.Edge.{Edge}
 use Rattle.bounded_flow.specs.Loads.{empty_edge, climbed, raised}

@@ -2,7 +2,7 @@ use Rattle.std.proofs.Common.{◌≡◌, ℕ, ◌+◌, ◌-◌, ◌<◌, ◌^◌
 use Rattle.std.specs.Prelude.{IfSome, nat_eq}
 use Rattle.std.specs.Set.{is_member}
 use Rattle.definitions.specs.Sets.{IsSet}
-use Rattle.definitions.specs.Hierarchies.{chain_of}
+use Rattle.definitions.specs.Trees.{chain_of}
 use Rattle.bounded_flow.specs.declared.edge.Edge.{Edge}
 use Rattle.bounded_flow.specs.Loads.{climbed}
 use Rattle.bounded_flow.proofs.building.climb.Given as goal

@@ -1,6 +1,6 @@
 use Rattle.std.proofs.Common.{◌≡◌, ◌+◌, ◌*◌, ◌^◌, ◌<◌, ◌∙◌, length, ap, arith, length-set}
 use Rattle.std.specs.Prelude.{sum}
-use Rattle.definitions.specs.Hierarchies.{chain_of, deepest_at}
+use Rattle.definitions.specs.Trees.{chain_of, deepest_at}
 use Rattle.bounded_flow.specs.Loads.{raised}
 use Rattle.bounded_flow.proofs.Adding.{edges_many}
 use Rattle.bounded_flow.proofs.Climbing.{climbed_many, edge_at}

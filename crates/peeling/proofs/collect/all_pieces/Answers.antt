@@ -3,7 +3,7 @@ use Rattle.std.proofs.Common.{ℕ, List, Bool, true, not, ◌≡◌, ◌∷◌, 
 use Rattle.std.specs.Prelude.{if◌then◌else◌}
 use Rattle.std.specs.Result.{is_ok}
 use Rattle.definitions.specs.declared.Piece.{Piece}
-use Rattle.definitions.specs.Pieces.{PeelerValue, IsStep}
+use Rattle.definitions.specs.Peelings.{PeelerValue, IsStep}
 use Rattle.peeling.specs.Peelers.{IsPeeler}
 use Rattle.peeling.proofs.Collected.{collected_nothing, collected_more, collected_all}
 use Rattle.peeling.proofs.collect.all_pieces.Goals as goal

@@ -1,6 +1,6 @@
 -- The net rounds what is left, and its whole matrix is taken off with the greatest weight.
 use Rattle.std.proofs.Common.{ℕ, ◌+◌, List, subst}
-use Rattle.definitions.specs.Pieces.{PeelerValue, IsStep}
+use Rattle.definitions.specs.Peelings.{PeelerValue, IsStep}
 use Rattle.bounded_flow.specs.Nets.{NetValue}
 use Rattle.peeling.specs.Views.{peeler_of}
 use Rattle.peeling.proofs.Steps.{taken_step, round_step}

@@ -1,14 +1,7 @@
-pub mod Telling
-pub mod Readings
-pub mod Matrices
-pub mod Scaling
-pub mod Crossings
-pub mod Tabling
-pub mod Picking
-pub mod Listing
-pub mod Stepping
-pub mod Splitting
-pub mod Ending
-pub mod Completing
-pub mod Headline
-pub mod Names
+mod CompleteLemmas
+mod FinishLemmas
+mod HeadlineLemmas
+mod LoadLemmas
+mod OutcomesLemmas
+mod PartsLemmas
+mod TopLemmas

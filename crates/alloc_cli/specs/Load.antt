@@ -1,8 +1,8 @@
 -- What loads give.
 use Rattle.std.specs.Prelude.{◌≡◌, ℕ, List, map, Vec, Result, Ok, Err}
 use Rattle.std.specs.declared.alloc.Global.{Global}
-use Rattle.alloc_cli.specs.declared.causes.Cause.{Cause}
 use Rattle.alloc_cli.specs.Runs.{FilesCount}
+use Rattle.alloc_outcomes.specs.declared.cause.Cause.{Cause}
 
 -- what was loaded
 abbrev pub bytes_of : List (Vec ℕ Global) → List (List ℕ)

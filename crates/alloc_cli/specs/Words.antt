@@ -1,19 +1,34 @@
 -- The forms of the words.
 use Rattle.std.specs.Prelude.{ℕ, List, [], ◌∷◌, if◌then◌else◌, Option, None, Some, codes}
-use Rattle.std.specs.Option.{option_map}
+use Rattle.std.specs.Option.{option_map, option_or}
 use Rattle.std.specs.Str.{bytes_eq}
 use Rattle.definitions.specs.Texts.{count_of}
 use Rattle.alloc_cli.specs.declared.words.Command.{Command}
 use Rattle.alloc_cli.specs.declared.words.Command.TheVariants as commands
+use Rattle.alloc_cli.specs.declared.words.OneFile.{OneFile}
+use Rattle.alloc_cli.specs.declared.words.OneFile.TheVariants as one
+use Rattle.alloc_cli.specs.declared.words.TwoFiles.{TwoFiles}
+use Rattle.alloc_cli.specs.declared.words.TwoFiles.TheVariants as two
 
--- the forms of two words after the name, of which the first names a file
+-- the command on one file of this name, and of the word after the file
+abbrev pub one_of : (name word : List ℕ) → Option OneFile
+one_of name word =
+    if bytes_eq name (codes "pick") then option_map (λ ticket. one.Pick ticket) (count_of word)
+    else None
+
+-- the command on two files of this name
+abbrev pub two_of : (name : List ℕ) → Option TwoFiles
+two_of name =
+    if bytes_eq name (codes "sets") then Some two.Sets
+    else if bytes_eq name (codes "table") then Some two.Table
+    else if bytes_eq name (codes "decompose") then Some two.Decompose
+    else None
+
+-- the command of this name and two more words
 abbrev pub form_of_two : (name second : List ℕ) → Option Command
 form_of_two name second =
-    if bytes_eq name (codes "pick") then option_map (λ ticket. commands.Pick ticket) (count_of second)
-    else if bytes_eq name (codes "sets") then Some commands.Sets
-    else if bytes_eq name (codes "table") then Some commands.Table
-    else if bytes_eq name (codes "decompose") then Some commands.Decompose
-    else None
+    option_or (option_map (λ c. commands.Two c) (two_of name))
+    (option_map (λ c. commands.One c) (one_of name second))
 
 -- the command that the words are a form of
 abbrev pub command_of : List (List ℕ) → Option Command
@@ -22,7 +37,5 @@ command_of _ = None
 
 -- how many files it loads: the words after its name
 abbrev pub file_count : Command → ℕ
-file_count (commands.Pick _) = 1
-file_count commands.Sets = 2
-file_count commands.Table = 2
-file_count commands.Decompose = 2
+file_count (commands.One _) = 1
+file_count (commands.Two _) = 2

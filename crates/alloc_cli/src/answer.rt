@@ -1,17 +1,18 @@
 // A command with its files: they are loaded, measured and handed to the command's step.
 ghost use Rattle.std.specs.Prelude.{◌≡◌, ◌+◌, ◌≤◌, ◌<◌, map, length, string_bytes, All};
 ghost use Rattle.alloc_cli.specs.Load.{bytes_of, LoadsCount};
-ghost use Rattle.alloc_cli.specs.Outcomes.{limit, Answers, Outcome};
-ghost use Rattle.alloc_cli.specs.Runs.{Stepped};
-ghost use Rattle.alloc_cli.specs.Steps.{OutCounts, ShortCounts, Measures};
-ghost use Rattle.alloc_cli.specs.Words.{file_count};
+ghost use Rattle.alloc_cli.specs.Outcomes.{answers_of_one, answers_of_two, Answers, Measures, Outcome};
 ghost use Rattle.alloc_cli.specs.Top.{Answered};
+ghost use Rattle.alloc_cli.specs.Words.{file_count};
+ghost use Rattle.alloc_outcomes.specs.Limits.{file_limit};
+ghost use Rattle.alloc_outcomes.specs.Steps.{OutCounts, ShortCounts, Steps};
 
-use crate::causes::Cause;
-use crate::decomposing::decompose;
 use crate::load::{FILE_LIMIT, load_all};
-use crate::steps;
-use crate::words::Command;
+use crate::words::{Command, OneFile, TwoFiles};
+use alloc_draws::pick;
+use alloc_outcomes::Cause;
+use alloc_steps::decompose;
+use alloc_tables::{sets, table};
 use device_core::{Files, Sink};
 use std::alloc::Global;
 
@@ -28,7 +29,39 @@ fn check_lengths(given: &[Vec<u8>]) -> Result<(), Cause>
     Ok(())
 }
 
-// The step of a command: one arm for each.
+// The step of a command on one file: one arm for each.
+fn step_one<K: Sink>(
+    alloc: Global,
+    command: OneFile,
+    first: &[u8],
+    out: &mut K,
+) -> Result<(), Cause>
+    ensures { Steps K.Sink (answers_of_one command first.now) out.old out.new result }
+{
+    match command {
+        OneFile::Pick { ticket } => pick::step(alloc, first, ticket, out),
+    }
+}
+
+// The step of a command on two files: one arm for each.
+fn step_two<K: Sink>(
+    alloc: Global,
+    command: TwoFiles,
+    first: &[u8],
+    second: &[u8],
+    out: &mut K,
+) -> Result<(), Cause>
+    requires { length second.now ≤ file_limit }
+    ensures { Steps K.Sink (answers_of_two command first.now second.now) out.old out.new result }
+{
+    match command {
+        TwoFiles::Sets => sets::step(alloc, first, second, out),
+        TwoFiles::Table => table::step(alloc, first, second, out),
+        TwoFiles::Decompose => decompose::step(alloc, first, second, out),
+    }
+}
+
+// The step of a command on what its files gave.
 fn step<K: Sink>(
     alloc: Global,
     command: Command,
@@ -36,16 +69,12 @@ fn step<K: Sink>(
     out: &mut K,
 ) -> Result<(), Cause>
     requires count { length given.now ≡ file_count command }
-    requires short { All (λ bytes. length bytes ≤ limit) (bytes_of given.now) }
-    ensures step { Stepped K.written K.flushed (Answers command (bytes_of given.now)) out.old out.new result }
-    ensures short { ShortCounts (K.short out.old) (K.short out.new) result }
-    ensures faults { OutCounts (K.faults out.old) (K.faults out.new) result }
+    requires short { All (λ bytes. length bytes ≤ file_limit) (bytes_of given.now) }
+    ensures { Steps K.Sink (Answers command (bytes_of given.now)) out.old out.new result }
 {
     match command {
-        Command::Pick { ticket } => steps::pick(alloc, &given[0], ticket, out),
-        Command::Sets => steps::sets(alloc, &given[0], &given[1], out),
-        Command::Table => steps::table(alloc, &given[0], &given[1], out),
-        Command::Decompose => decompose(alloc, &given[0], &given[1], out),
+        Command::One(one) => step_one(alloc, one, &given[0], out),
+        Command::Two(two) => step_two(alloc, two, &given[0], &given[1], out),
     }
 }
 
@@ -57,9 +86,7 @@ fn decide<K: Sink>(
     out: &mut K,
 ) -> Result<(), Cause>
     requires { length given.now ≡ file_count command }
-    ensures step { Stepped K.written K.flushed (Outcome command (bytes_of given.now)) out.old out.new result }
-    ensures short { ShortCounts (K.short out.old) (K.short out.new) result }
-    ensures faults { OutCounts (K.faults out.old) (K.faults out.new) result }
+    ensures { Steps K.Sink (Outcome command (bytes_of given.now)) out.old out.new result }
 {
     check_lengths(given)?;
     step(alloc, command, given, out)
@@ -74,7 +101,8 @@ pub fn answer<F: Files, K: Sink>(
     out: &mut K,
 ) -> Result<(), Cause>
     requires { file_count command + 1 ≤ length words.now }
-    ensures answered { Answered K.written K.flushed (F.held files.old) command (map string_bytes words.now) out.old out.new result }
+    ensures answered { Answered K.Sink (F.held files.old) (map string_bytes words.now) command
+        out.old out.new result }
     ensures files { LoadsCount (F.faults files.old) (F.faults files.new) result }
     ensures short { ShortCounts (K.short out.old) (K.short out.new) result }
     ensures out { OutCounts (K.faults out.old) (K.faults out.new) result }

@@ -1,88 +1,20 @@
 // The line of a cause.
 ghost use Rattle.std.specs.Prelude.{◌≡◌, ◌∷◌, [], codes};
-ghost use Rattle.device_core.specs.Told.{Appended};
-ghost use Rattle.device_core.specs.Counts.{WriteCounts};
-ghost use Rattle.alloc_cli.specs.Causes.{fields_text, joined, line_of};
-ghost use Rattle.alloc_cli.specs.Parts.{part_text};
+ghost use Rattle.alloc_cli.specs.Lines.{joined, line_of};
+ghost use Rattle.alloc_cli.specs.Parts.{part_text, Writes};
 
-use crate::causes::Cause;
-use crate::faults::Fault;
-use crate::parts::Part::{I64, Text, U8, U32, U64, U128};
-use crate::parts::{Part, write_parts, write_spaced};
+use crate::fault_line::write_fields;
+use crate::parts::Part::{Text, U8, U32, U64, U128};
+use crate::parts::{Part, write_parts};
 use alloc_input::InputFault;
+use alloc_outcomes::Cause;
+use cert_check::Fault;
 use device_core::{Sink, SinkFault};
 use lottery_file::LotteryFault;
 
-// The fields of a fault, each after a blank.
-fn write_fields<E: Sink>(fault: Fault, err: &mut E) -> Result<(), SinkFault>
-    ensures bytes { Appended (E.written err.old) (E.written err.new) (fields_text fault) result }
-    ensures flushed { E.flushed err.new ≡ E.flushed err.old }
-    ensures cause { WriteCounts (E.faults err.old) (E.faults err.new) (E.short err.old) (E.short err.new) result }
-{
-    match fault {
-        Fault::AgentsDiffer { place } => write_spaced(&[U32(place)], err),
-        Fault::ColumnsDiffer { place } => write_spaced(&[U32(place)], err),
-        Fault::SetsDiffer { due, found } => write_spaced(&[U32(due), U32(found)], err),
-        Fault::ListDiffers { agent, place } => write_spaced(&[U32(agent), U32(place)], err),
-        Fault::DenominatorDiffers { due, found } => write_spaced(&[U128(due), U128(found)], err),
-        Fault::EntryDiffers {
-            agent,
-            column,
-            due,
-            found,
-        } => write_spaced(&[U32(agent), U32(column), U128(due), U128(found)], err),
-        Fault::RowSum { agent, sum } => write_spaced(&[U32(agent), U128(sum)], err),
-        Fault::OffList {
-            agent,
-            column,
-            units,
-        } => write_spaced(&[U32(agent), U32(column), U128(units)], err),
-        Fault::OverCeiling { set, sum } => write_spaced(&[U32(set), U128(sum)], err),
-        Fault::WorthNotFalling {
-            agent,
-            place,
-            worth,
-            next,
-        } => write_spaced(&[U32(agent), U32(place), I64(worth), I64(next)], err),
-        Fault::PriceNotFull { set, price, sum } => write_spaced(
-            &[U32(set), U64(price), U128(sum)],
-            err,
-        ),
-        Fault::NotBest {
-            agent,
-            place,
-            gain,
-            other,
-            better,
-        } => write_spaced(
-            &[U32(agent), U32(place), I64(gain), U32(other), I64(better)],
-            err,
-        ),
-        Fault::TooManyPieces { pieces, bound } => write_spaced(&[U64(pieces), U64(bound)], err),
-        Fault::CellNotRounded {
-            piece,
-            agent,
-            column,
-            count,
-        } => write_spaced(&[U64(piece), U32(agent), U32(column), U32(count)], err),
-        Fault::SetNotRounded { piece, set, sum } => write_spaced(
-            &[U64(piece), U32(set), U64(sum)],
-            err,
-        ),
-        Fault::SamePieces { first, second } => write_spaced(&[U64(first), U64(second)], err),
-        Fault::CellNotMet {
-            agent,
-            column,
-            given,
-            due,
-        } => write_spaced(&[U32(agent), U32(column), U128(given), U128(due)], err),
-    }
-}
-
+// The number of a failed check, and the fields of the fault.
 fn write_fault<E: Sink>(fault: Fault, err: &mut E) -> Result<(), SinkFault>
-    ensures bytes { Appended (E.written err.old) (E.written err.new) (line_of (Cause.AuditFailed fault)) result }
-    ensures flushed { E.flushed err.new ≡ E.flushed err.old }
-    ensures cause { WriteCounts (E.faults err.old) (E.faults err.new) (E.short err.old) (E.short err.new) result }
+    ensures { Writes E.Sink (line_of (Cause.AuditFailed fault)) err.old err.new result }
 {
     let number = fault.number();
     write_parts(&[Text("audit failed: "), U8(number)], err)?;
@@ -90,10 +22,9 @@ fn write_fault<E: Sink>(fault: Fault, err: &mut E) -> Result<(), SinkFault>
     write_parts(&[Text("\n")], err)
 }
 
+// The file, the record and the kind of a fault of preferences, quotas or a matrix.
 fn write_input<E: Sink>(fault: InputFault, err: &mut E) -> Result<(), SinkFault>
-    ensures bytes { Appended (E.written err.old) (E.written err.new) (line_of (Cause.Input fault)) result }
-    ensures flushed { E.flushed err.new ≡ E.flushed err.old }
-    ensures cause { WriteCounts (E.faults err.old) (E.faults err.new) (E.short err.old) (E.short err.new) result }
+    ensures { Writes E.Sink (line_of (Cause.Input fault)) err.old err.new result }
 {
     let kind = fault.kind.number();
     write_parts(
@@ -110,10 +41,9 @@ fn write_input<E: Sink>(fault: InputFault, err: &mut E) -> Result<(), SinkFault>
     )
 }
 
+// The record and the kind of a fault of a lottery.
 fn write_lottery<E: Sink>(fault: LotteryFault, err: &mut E) -> Result<(), SinkFault>
-    ensures bytes { Appended (E.written err.old) (E.written err.new) (line_of (Cause.Lottery fault)) result }
-    ensures flushed { E.flushed err.new ≡ E.flushed err.old }
-    ensures cause { WriteCounts (E.faults err.old) (E.faults err.new) (E.short err.old) (E.short err.new) result }
+    ensures { Writes E.Sink (line_of (Cause.Lottery fault)) err.old err.new result }
 {
     let kind = fault.kind.number();
     write_parts(
@@ -130,9 +60,8 @@ fn write_lottery<E: Sink>(fault: LotteryFault, err: &mut E) -> Result<(), SinkFa
 
 // A line of a text and a number.
 fn write_one<E: Sink>(lead: &'static str, number: Part, err: &mut E) -> Result<(), SinkFault>
-    ensures bytes { Appended (E.written err.old) (E.written err.new) (joined (lead.now ∷ part_text number ∷ codes "\n" ∷ [])) result }
-    ensures flushed { E.flushed err.new ≡ E.flushed err.old }
-    ensures cause { WriteCounts (E.faults err.old) (E.faults err.new) (E.short err.old) (E.short err.new) result }
+    ensures { Writes E.Sink (joined (lead.now ∷ part_text number ∷ codes "\n" ∷ []))
+        err.old err.new result }
 {
     write_parts(&[Text(lead), number, Text("\n")], err)
 }
@@ -145,18 +74,16 @@ fn write_two<E: Sink>(
     second: Part,
     err: &mut E,
 ) -> Result<(), SinkFault>
-    ensures bytes { Appended (E.written err.old) (E.written err.new) (joined (lead.now ∷ part_text first ∷ between.now ∷ part_text second ∷ codes "\n" ∷ [])) result }
-    ensures flushed { E.flushed err.new ≡ E.flushed err.old }
-    ensures cause { WriteCounts (E.faults err.old) (E.faults err.new) (E.short err.old) (E.short err.new) result }
+    ensures { Writes E.Sink
+        (joined (lead.now ∷ part_text first ∷ between.now ∷ part_text second ∷ codes "\n" ∷ []))
+        err.old err.new result }
 {
     write_parts(&[Text(lead), first, Text(between), second, Text("\n")], err)
 }
 
 /// Writes the line of a cause, and nothing for `Done`. A refusal ends it there.
 pub fn write_line<E: Sink>(cause: Cause, err: &mut E) -> Result<(), SinkFault>
-    ensures bytes { Appended (E.written err.old) (E.written err.new) (line_of cause) result }
-    ensures flushed { E.flushed err.new ≡ E.flushed err.old }
-    ensures cause { WriteCounts (E.faults err.old) (E.faults err.new) (E.short err.old) (E.short err.new) result }
+    ensures { Writes E.Sink (line_of cause) err.old err.new result }
 {
     match cause {
         Cause::Done => Ok(()),

@@ -1,9 +1,9 @@
 // Loads the files of a command.
-ghost use Rattle.std.specs.Prelude.{◌≡◌, ◌+◌, ◌≤◌, ◌<◌, map, take, string_bytes, length, IfOk, IfErr, Option, IfSome};
-ghost use Rattle.alloc_cli.specs.Runs.{IsGiven, IsUnread, FilesCount};
+ghost use Rattle.std.specs.Prelude.{◌≡◌, ◌<◌, map, string_bytes, length, IfOk, IfErr};
 ghost use Rattle.alloc_cli.specs.Load.{bytes_of, LoadsCount};
+ghost use Rattle.alloc_cli.specs.Runs.{IsGiven, IsUnread};
 
-use crate::causes::Cause;
+use alloc_outcomes::Cause;
 use device_core::{Files, LoadFault};
 use std::alloc::Global;
 
@@ -17,7 +17,8 @@ pub fn load_all<F: Files>(
     files: &mut F,
 ) -> Result<Vec<Vec<u8>>, Cause>
     requires { length names.now < 255 }
-    ensures given { IfOk result (λ given. IsGiven (F.held files.old) (map string_bytes names.now) (bytes_of given.items)) }
+    ensures given { IfOk result (λ given.
+        IsGiven (F.held files.old) (map string_bytes names.now) (bytes_of given.items)) }
     ensures held { F.held files.new ≡ F.held files.old }
     ensures refused { IfErr result (IsUnread (length names.now)) }
     ensures faults { LoadsCount (F.faults files.old) (F.faults files.new) result }
@@ -28,11 +29,10 @@ pub fn load_all<F: Files>(
         match files.load(name.as_str(), FILE_LIMIT, &mut bytes) {
             Ok(()) => {}
             Err(LoadFault::NoMemory) => return Err(Cause::NoMemory),
+            // The cause names the file, which the fault doesn't know.
             Err(LoadFault::Failed) => return Err(Cause::ReadFault { file: i as u8 + 1 }),
         }
-        if given.push(bytes).is_err() {
-            return Err(Cause::NoMemory);
-        }
+        given.push(bytes)?;
     }
     Ok(given)
 }

@@ -1,9 +1,7 @@
 // Text that is written in parts, without memory.
 ghost use Rattle.std.specs.Prelude.{◌≡◌, ◌++◌, codes, decimal};
 ghost use Rattle.std.specs.Fmt.{signed_decimal};
-ghost use Rattle.device_core.specs.Told.{Appended};
-ghost use Rattle.device_core.specs.Counts.{WriteCounts};
-ghost use Rattle.alloc_cli.specs.Parts.{part_text, parts_text, blank_text, spaced_text};
+ghost use Rattle.alloc_cli.specs.Parts.{blank_text, part_text, parts_text, spaced_text, Writes};
 
 use device_core::{Sink, SinkFault};
 use table_text::digits;
@@ -19,30 +17,33 @@ pub enum Part {
     I64(i64),
 }
 
+// A text as it stands.
+fn put<K: Sink>(text: &[u8], out: &mut K) -> Result<(), SinkFault>
+    ensures { Writes K.Sink text.now out.old out.new result }
+{
+    out.write(text)
+}
+
+// The digits of a number.
 fn write_number<K: Sink>(number: u128, out: &mut K) -> Result<(), SinkFault>
-    ensures bytes { Appended (K.written out.old) (K.written out.new) (decimal number) result }
-    ensures flushed { K.flushed out.new ≡ K.flushed out.old }
-    ensures cause { WriteCounts (K.faults out.old) (K.faults out.new) (K.short out.old) (K.short out.new) result }
+    ensures { Writes K.Sink (decimal number) out.old out.new result }
 {
     let mut text = [0u8; 39];
     let length = digits(number, &mut text);
-    out.write(&text[..length])
+    put(&text[..length], out)
 }
 
 // The number with `-` before it.
 fn write_negative<K: Sink>(size: u128, out: &mut K) -> Result<(), SinkFault>
-    ensures bytes { Appended (K.written out.old) (K.written out.new) (codes "-" ++ decimal size) result }
-    ensures flushed { K.flushed out.new ≡ K.flushed out.old }
-    ensures cause { WriteCounts (K.faults out.old) (K.faults out.new) (K.short out.old) (K.short out.new) result }
+    ensures { Writes K.Sink (codes "-" ++ decimal size) out.old out.new result }
 {
-    out.write(b"-")?;
+    put(b"-", out)?;
     write_number(size, out)
 }
 
+// The number with its sign.
 fn write_signed<K: Sink>(number: i64, out: &mut K) -> Result<(), SinkFault>
-    ensures bytes { Appended (K.written out.old) (K.written out.new) (signed_decimal number) result }
-    ensures flushed { K.flushed out.new ≡ K.flushed out.old }
-    ensures cause { WriteCounts (K.faults out.old) (K.faults out.new) (K.short out.old) (K.short out.new) result }
+    ensures { Writes K.Sink (signed_decimal number) out.old out.new result }
 {
     let size = number.unsigned_abs();
     if number < 0 {
@@ -52,13 +53,12 @@ fn write_signed<K: Sink>(number: i64, out: &mut K) -> Result<(), SinkFault>
     }
 }
 
+// The text of a part.
 fn write_part<K: Sink>(part: Part, out: &mut K) -> Result<(), SinkFault>
-    ensures bytes { Appended (K.written out.old) (K.written out.new) (part_text part) result }
-    ensures flushed { K.flushed out.new ≡ K.flushed out.old }
-    ensures cause { WriteCounts (K.faults out.old) (K.faults out.new) (K.short out.old) (K.short out.new) result }
+    ensures { Writes K.Sink (part_text part) out.old out.new result }
 {
     match part {
-        Part::Text(text) => out.write(text.as_bytes()),
+        Part::Text(text) => put(text.as_bytes(), out),
         Part::U8(number) => write_number(number as u128, out),
         Part::U32(number) => write_number(number as u128, out),
         Part::U64(number) => write_number(number as u128, out),
@@ -69,9 +69,7 @@ fn write_part<K: Sink>(part: Part, out: &mut K) -> Result<(), SinkFault>
 
 /// Writes the parts in order. A refusal ends it there.
 pub fn write_parts<K: Sink>(parts: &[Part], out: &mut K) -> Result<(), SinkFault>
-    ensures bytes { Appended (K.written out.old) (K.written out.new) (parts_text parts.now) result }
-    ensures flushed { K.flushed out.new ≡ K.flushed out.old }
-    ensures cause { WriteCounts (K.faults out.old) (K.faults out.new) (K.short out.old) (K.short out.new) result }
+    ensures { Writes K.Sink (parts_text parts.now) out.old out.new result }
 {
     match parts {
         [] => Ok(()),
@@ -84,19 +82,15 @@ pub fn write_parts<K: Sink>(parts: &[Part], out: &mut K) -> Result<(), SinkFault
 
 // A part after a blank.
 fn write_after_blank<K: Sink>(part: Part, out: &mut K) -> Result<(), SinkFault>
-    ensures bytes { Appended (K.written out.old) (K.written out.new) (blank_text part) result }
-    ensures flushed { K.flushed out.new ≡ K.flushed out.old }
-    ensures cause { WriteCounts (K.faults out.old) (K.faults out.new) (K.short out.old) (K.short out.new) result }
+    ensures { Writes K.Sink (blank_text part) out.old out.new result }
 {
-    out.write(b" ")?;
+    put(b" ", out)?;
     write_part(part, out)
 }
 
 /// Writes the parts in order, each after a blank. A refusal ends it there.
 pub fn write_spaced<K: Sink>(parts: &[Part], out: &mut K) -> Result<(), SinkFault>
-    ensures bytes { Appended (K.written out.old) (K.written out.new) (spaced_text parts.now) result }
-    ensures flushed { K.flushed out.new ≡ K.flushed out.old }
-    ensures cause { WriteCounts (K.faults out.old) (K.faults out.new) (K.short out.old) (K.short out.new) result }
+    ensures { Writes K.Sink (spaced_text parts.now) out.old out.new result }
 {
     match parts {
         [] => Ok(()),

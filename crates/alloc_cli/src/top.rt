@@ -1,20 +1,22 @@
 // The top call.
 ghost use Rattle.std.specs.Prelude.{◌≡◌, ◌↔◌, None, map, string_bytes, List, ℕ};
-ghost use Rattle.alloc_cli.specs.declared.words.Command.{Command};
-ghost use Rattle.alloc_cli.specs.Outcomes.{Outcome, RefusesAlone};
-ghost use Rattle.alloc_cli.specs.Causes.{status_of};
-ghost use Rattle.alloc_cli.specs.Runs.{FilesCount, OutCount, ShortCount};
-ghost use Rattle.alloc_cli.specs.Words.{command_of};
-ghost use Rattle.alloc_cli.specs.Top.{Begun, Ran, Tells};
 ghost use Rattle.alloc_cli.specs.Complete.{Completes};
+ghost use Rattle.alloc_cli.specs.Finish.{status_of, Tells};
 ghost use Rattle.alloc_cli.specs.Headline.{Headline};
 ghost use Rattle.alloc_cli.specs.Load.{LoadsCount};
-ghost use Rattle.alloc_cli.specs.Steps.{OutCounts, ShortCounts};
+ghost use Rattle.alloc_cli.specs.Outcomes.{Outcome};
+ghost use Rattle.alloc_cli.specs.Runs.{FilesCount};
+ghost use Rattle.alloc_cli.specs.Top.{Begun, Ran};
+ghost use Rattle.alloc_cli.specs.Words.{command_of};
+ghost use Rattle.alloc_cli.specs.declared.words.Command.{Command};
+ghost use Rattle.alloc_outcomes.specs.Answers.{RefusesAlone};
+ghost use Rattle.alloc_outcomes.specs.Sentences.{counts_of};
+ghost use Rattle.alloc_outcomes.specs.Steps.{OutCount, OutCounts, ShortCount, ShortCounts};
 
 use crate::answer::answer;
-use crate::causes::{Cause, Ended};
-use crate::finish::finish;
+use crate::finish::{Ended, finish};
 use crate::words::parse;
+use alloc_outcomes::Cause;
 use device_core::{Files, Sink};
 use std::alloc::Global;
 
@@ -32,7 +34,8 @@ fn begin<F: Files, K: Sink>(
     out: &mut K,
 ) -> Result<(), Cause>
     ensures unloaded { command_of (map string_bytes words.now) ≡ None → files.new ≡ files.old }
-    ensures begun { Begun K.written K.flushed (F.held files.old) (map string_bytes words.now) out.old out.new result }
+    ensures begun { Begun K.Sink (F.held files.old) (map string_bytes words.now)
+        out.old out.new result }
     ensures files { LoadsCount (F.faults files.old) (F.faults files.new) result }
     ensures short { ShortCounts (K.short out.old) (K.short out.new) result }
     ensures out { OutCounts (K.faults out.old) (K.faults out.new) result }
@@ -51,16 +54,22 @@ pub fn run<F: Files, K: Sink, E: Sink>(
     out: &mut K,
     err: &mut E,
 ) -> Ended
-    ensures answer { Ran K.written K.flushed (F.held files.old) (map string_bytes words.now) out.old out.new result.cause }
+    ensures answer { Ran K.Sink (F.held files.old) (map string_bytes words.now)
+        out.old out.new result.cause }
     ensures unloaded { command_of (map string_bytes words.now) ≡ None → files.new ≡ files.old }
     ensures read { FilesCount (F.faults files.old) (F.faults files.new) result.cause }
     ensures write { OutCount (K.faults out.old) (K.faults out.new) result.cause }
     ensures short { ShortCount (K.short out.old) (K.short out.new) result.cause }
     ensures usage { (result.cause ≡ Cause.Usage) ↔ (command_of (map string_bytes words.now) ≡ None) }
-    ensures complete { Completes (F.held files.old) (map string_bytes words.now) (F.faults files.old) (F.faults files.new) (K.faults out.old) (K.faults out.new) result.cause }
-    ensures headline { Headline (F.held files.old) (map string_bytes words.now) (K.written out.old) (K.written out.new) (F.faults files.old) (F.faults files.new) (K.faults out.old) (K.faults out.new) result.cause }
+    ensures complete { Completes (F.held files.old) (map string_bytes words.now)
+        (counts_of F.Files K.Sink files.old out.old)
+        (counts_of F.Files K.Sink files.new out.new) result.cause }
+    ensures headline { Headline (F.held files.old) (map string_bytes words.now)
+        (K.written out.old) (K.written out.new)
+        (counts_of F.Files K.Sink files.old out.old)
+        (counts_of F.Files K.Sink files.new out.new) result.cause }
     ensures status { result.status ≡ status_of result.cause }
-    ensures err { Tells E.written E.flushed E.faults E.short err.old err.new result.cause }
+    ensures err { Tells E.Sink err.old err.new result.cause }
 {
     let written = begin(alloc, words, files, out);
     finish(written, out, err)

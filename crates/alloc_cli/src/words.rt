@@ -1,14 +1,19 @@
 // The forms of the words.
 ghost use Rattle.std.specs.Prelude.{◌≡◌, ◌+◌, ◌≤◌, map, string_bytes, length, IfSome};
-ghost use Rattle.alloc_cli.specs.Words.{command_of, form_of_two, file_count};
+ghost use Rattle.alloc_cli.specs.Words.{command_of, file_count, form_of_two, one_of, two_of};
 
 use table_text::read_count;
 
-/// What the words ask for. The files of a command are the words after its name, in order.
+/// A command on one file.
 #[derive(Clone, Copy, Debug, PartialEq, Eq)]
-pub enum Command {
+pub enum OneFile {
     /// `pick LOTTERY TICKET`
     Pick { ticket: u128 },
+}
+
+/// A command on two files.
+#[derive(Clone, Copy, Debug, PartialEq, Eq)]
+pub enum TwoFiles {
     /// `sets PREFS QUOTAS`
     Sets,
     /// `table PREFS QUOTAS`
@@ -17,31 +22,57 @@ pub enum Command {
     Decompose,
 }
 
+/// What the words ask for. The files of a command are the words after its name, in order.
+#[derive(Clone, Copy, Debug, PartialEq, Eq)]
+pub enum Command {
+    One(OneFile),
+    Two(TwoFiles),
+}
+
 impl Command {
     /// How many files it loads.
     pub fn file_count(self) -> usize
         ensures { result ≡ file_count self }
     {
         match self {
-            Command::Pick { .. } => 1,
-            Command::Sets | Command::Table | Command::Decompose => 2,
+            Command::One(_) => 1,
+            Command::Two(_) => 2,
         }
     }
 }
 
-// The command of this name and two more words, of which the first names a file.
-fn parse_two(name: &str, second: &str) -> Option<Command>
-    ensures { result ≡ form_of_two name.now second.now }
+// The command on one file of this name, and of the word after the file.
+fn parse_one(name: &str, word: &str) -> Option<OneFile>
+    ensures { result ≡ one_of name.now word.now }
 {
     match name {
         "pick" => {
-            let ticket = read_count(second.as_bytes())?;
-            Some(Command::Pick { ticket })
+            let ticket = read_count(word.as_bytes())?;
+            Some(OneFile::Pick { ticket })
         }
-        "sets" => Some(Command::Sets),
-        "table" => Some(Command::Table),
-        "decompose" => Some(Command::Decompose),
         _ => None,
+    }
+}
+
+// The command on two files of this name.
+fn parse_two(name: &str) -> Option<TwoFiles>
+    ensures { result ≡ two_of name.now }
+{
+    match name {
+        "sets" => Some(TwoFiles::Sets),
+        "table" => Some(TwoFiles::Table),
+        "decompose" => Some(TwoFiles::Decompose),
+        _ => None,
+    }
+}
+
+// The command of this name and two more words.
+fn parse_with_two(name: &str, second: &str) -> Option<Command>
+    ensures { result ≡ form_of_two name.now second.now }
+{
+    match parse_two(name) {
+        Some(command) => Some(Command::Two(command)),
+        None => Some(Command::One(parse_one(name, second)?)),
     }
 }
 
@@ -51,7 +82,7 @@ pub fn parse(words: &[String]) -> Option<Command>
     ensures files { IfSome result (λ command. file_count command + 1 ≤ length words.now) }
 {
     match words {
-        [name, _, second] => parse_two(name.as_str(), second.as_str()),
+        [name, _, second] => parse_with_two(name.as_str(), second.as_str()),
         _ => None,
     }
 }

@@ -3,7 +3,7 @@ use Rattle.std.proofs.Common.{◌≡◌, ℕ, ◌+◌, ◌*◌, ◌<◌, ◌≤�
 use Rattle.std.specs.Prelude.{IsSome, IfSome, All}
 use Rattle.std.proofs.lemmas.Bool.{cases_lt}
 use Rattle.std.proofs.lemmas.Grind.{same_number_lists}
-use Rattle.definitions.specs.Pieces.{PeelerValue}
+use Rattle.definitions.specs.Peelings.{PeelerValue}
 use Rattle.peeling.specs.Peelers.{IsPeeler}
 use Rattle.alloc_steps.specs.Filling.{IsFilledBefore}
 

@@ -4,7 +4,9 @@ use Rattle.std.proofs.Math.Seq.{take-append_seam}
 use Rattle.std.proofs.lemmas.List.{map_push, length-map, take_all, get_or_at}
 use Rattle.definitions.specs.Sets.{ScaledValue}
 use Rattle.definitions.specs.Values.{PieceValue, PricesValue}
-use Rattle.definitions.specs.Pieces.{WeightedMatrix, PeelerValue, sets_of, IsStep, gives_of, pieces_of, piece_of_matrix}
+use Rattle.definitions.specs.Pieces.{WeightedMatrix}
+use Rattle.definitions.specs.Peelings.{PeelerValue, sets_of, IsStep}
+use Rattle.definitions.specs.Gives.{gives_of, pieces_of, piece_of_matrix}
 use Rattle.device_core.specs.declared.faults.SinkFault.{SinkFault}
 use Rattle.device_core.specs.Told.{Appended}
 use Rattle.device_core.specs.Continuing.{Continued}

@@ -1,11 +1,14 @@
 -- The lottery that a decomposition of given shares makes.
 use Rattle.std.proofs.Common.{◌≡◌, ℕ, ◌≤◌, List, [], length, Option, None, Result, Ok, Err, inr, refl, sym, ◌∙◌, subst, false, All}
+use Rattle.std.specs.Result.{IfOk, MatchResult, is_ok}
 use Rattle.std.proofs.lemmas.List.Elements.{All-map}
 use Rattle.definitions.specs.declared.Cell.{Cell}
 use Rattle.definitions.specs.Sets.{FamilyValue, ScaledValue, IsScaledMatrix, cells_of}
 use Rattle.definitions.specs.Values.{SharesValue, PieceValue}
 use Rattle.definitions.specs.Scaling.{IsScaled}
-use Rattle.definitions.specs.Pieces.{WeightedMatrix, PeelerValue, Decomposes, AreGives, sets_of, weighted_pieces, pieces_of, piece_of_matrix}
+use Rattle.definitions.specs.Pieces.{WeightedMatrix, Decomposes, AreGives, weighted_pieces}
+use Rattle.definitions.specs.Peelings.{PeelerValue, sets_of}
+use Rattle.definitions.specs.Gives.{pieces_of, piece_of_matrix}
 use Rattle.definitions.specs.Lotteries.{LotteryValue, Splits, ends_with_none}
 use Rattle.definitions.proofs.Gives.{AreShaped, weighted_back, all_gives_lawful}
 use Rattle.definitions.proofs.Sums.{sum_mapped}
@@ -15,9 +18,15 @@ use Rattle.peeling.specs.Peelers.{IsPeeler, IsStart}
 use Rattle.peeling.proofs.Given.{start_sets, shaped_pieces}
 use Rattle.alloc_steps.specs.Writing.{lottery_with, WritesPieces, WritesLottery, WritesLotteryOrNothing}
 
+-- what is known of a value whose error was renamed
+pub kept_at : {T E D : Type 0} (P : T → Type 0) (Q : E → Type 0) (r : Result T E) (s : Result T D) (x : T)
+    → IfOk r P → MatchResult r (λ v. s ≡ Ok v) Q → is_ok s ≡ is_ok r → s ≡ Ok x → P x
+kept_at P Q (Ok v) s x p is same was = let one : v ≡ x = cc in subst P one p
+kept_at P Q (Err e) s x p is same was = absurd (cc (rw was at same))
+
 -- pieces that decompose given shares make a lottery that splits them
 pub splits_with : (given : SharesValue) (f : FamilyValue) (x : ScaledValue) (ps : List WeightedMatrix) → IsScaled given x → IsScaledMatrix x → ends_with_none given.objects ≡ false → AreShaped x.agents x.columns ps
-    → Decomposes f.columns (cells_of f) x.units x.denominator ps → Splits given f (lottery_with given.agents given.objects x [] None ps)
+    → Decomposes x.columns (cells_of f) x.units x.denominator ps → Splits given f (lottery_with given.agents given.objects x [] None ps)
 splits_with given f x ps scaled matrix plain shaped decompose =
     let wide : x.columns ≡ length given.objects = scaled.columns in
     let back : weighted_pieces x.agents x.columns (pieces_of x.columns ps) ≡ ps = weighted_back x.agents x.columns ps shaped in
@@ -27,7 +36,7 @@ splits_with given f x ps scaled matrix plain shaped decompose =
         shares = matrix;
         rows = scaled.agents;
         columns = scaled.columns;
-        priced = inr (plain, refl, refl);
+        priced = inr (record { named = plain; prices = refl; lists = refl });
         weights = All-map (λ (p : PieceValue). 1 ≤ p.weight) (piece_of_matrix (length given.objects)) ps decompose.weights;
         adds_up = sum_mapped (λ (p : PieceValue). p.weight) (piece_of_matrix (length given.objects)) ps ∙ decompose.adds_up;
         gives = subst (λ c. All (λ (p : PieceValue). AreGives x.agents x.columns p.gives) (pieces_of c ps)) wide lawful;
@@ -36,8 +45,8 @@ splits_with given f x ps scaled matrix plain shaped decompose =
       columns = refl;
       scaled = scaled;
       plain = (refl, refl);
-      pieces = subst (λ c. Decomposes f.columns (cells_of f) x.units x.denominator (weighted_pieces x.agents x.columns (pieces_of c ps))) wide
-          (subst (λ (qs : List WeightedMatrix). Decomposes f.columns (cells_of f) x.units x.denominator qs) (sym back) decompose);
+      pieces = subst (λ c. Decomposes x.columns (cells_of f) x.units x.denominator (weighted_pieces x.agents x.columns (pieces_of c ps))) wide
+          (subst (λ (qs : List WeightedMatrix). Decomposes x.columns (cells_of f) x.units x.denominator qs) (sym back) decompose);
     }
 
 -- the shape of pieces, where a decomposition starts with the matrix
@@ -63,7 +72,7 @@ split_written written given f x v old new r scaled matrix plain agents columns s
     let rows : x.agents ≡ f.agents = scaled.agents ∙ sym agents in
     let wide : x.columns ≡ f.columns = scaled.columns ∙ sym columns in
     let shaped : AreShaped x.agents x.columns w.pieces = shaped_at f x v w.pieces start lawful rows wide w.decompose in
-    let decompose : Decomposes f.columns (cells_of f) x.units x.denominator w.pieces = decomposes_at f x v w.pieces start w.decompose in
+    let decompose : Decomposes x.columns (cells_of f) x.units x.denominator w.pieces = subst (λ n. Decomposes n (cells_of f) x.units x.denominator w.pieces) (sym wide) (decomposes_at f x v w.pieces start w.decompose) in
     record {
       lottery = lottery_with given.agents given.objects x [] None w.pieces;
       plain = refl;

@@ -1,3 +1,4 @@
+pub mod Decompose
 pub mod Filling
 pub mod Well
 pub mod Writing

@@ -3,7 +3,8 @@ use Rattle.std.specs.Prelude.{◌≡◌, ℕ, ◌⊎◌, List, length, Option, N
 use Rattle.definitions.specs.declared.Cell.{Cell}
 use Rattle.definitions.specs.Sets.{ScaledValue}
 use Rattle.definitions.specs.Values.{PricesValue}
-use Rattle.definitions.specs.Pieces.{WeightedMatrix, Decomposes, pieces_of}
+use Rattle.definitions.specs.Pieces.{WeightedMatrix, Decomposes}
+use Rattle.definitions.specs.Gives.{pieces_of}
 use Rattle.definitions.specs.Lotteries.{LotteryValue}
 use Rattle.device_core.specs.declared.faults.SinkFault.{SinkFault}
 use Rattle.device_core.specs.declared.faults.SinkFault.TheVariants as sink

@@ -1,8 +1,23 @@
-//! Lotteries that are written while their pieces are peeled: a step of a command takes its memory, and then every piece
-//! goes out as soon as it is made, so no list of pieces is kept.
+//! Lotteries that are written while their pieces are peeled: a step of a command takes its memory,
+//! and then every piece goes out as soon as it is made, so no list of pieces is kept. Where shares,
+//! families and lists come from is not known here.
+//!
+//! ```text
+//! let trees = Trees::of(alloc, &family)?;
+//! let x = scale(alloc, &shares)?;
+//! let mut out = SureSink::new(alloc);
+//! write_split(alloc, &shares, &family, &trees, &x, &mut out)?;
+//!
+//! // The same with a peeler of one's own, as with lists and prices.
+//! let mut peeler = Peeler::new(alloc, &trees, &family, &x)?;
+//! let mut counts = vec![in alloc; 0; cells]?;
+//! let (agents, objects) = (shares.agents(), shares.objects());
+//! write_peeled(alloc, agents, objects, &x, &[], None, &mut peeler, &mut counts, &mut out)?;
+//! ```
 #![tactic(auto)]
 
 mod counts;
+pub mod decompose;
 mod laws;
 mod split;
 mod written;

@@ -37,7 +37,8 @@ fn cell(agent: u32, object: u32) -> Cell
 fn one_of(alloc: Global, side: u8, first: Cell, second: Cell) -> Result<QuotaSet, AllocError>
     requires side { (side ≡ 1) ⊎ (side ≡ 2) }
     requires order { IsBefore first second }
-    ensures { IfOk result (λ set. set ≡ record { side = side; floor = 1; ceiling = 1; cells = first ∷ second ∷ [] }) }
+    ensures { IfOk result (λ set. set
+        ≡ record { side = side; floor = 1; ceiling = 1; cells = first ∷ second ∷ [] }) }
 {
     let cells = vec![in alloc; first, second]?;
     Ok(QuotaSet::new(side, 1, 1, cells))

@@ -1,6 +1,6 @@
 use Rattle.std.proofs.Common.{inr, string_bytes, ap, sym}
 use Rattle.alloc_cli.specs.Load.{bytes_of}
-use Rattle.alloc_cli.proofs.Names.{names_after, given_by}
+use Rattle.alloc_cli.proofs.LoadLemmas.{names_after, given_by}
 use Rattle.alloc_cli.proofs.answer.answer.Goals as goal
 
 pub returns-clause-answered : goal.returns-clause-answered

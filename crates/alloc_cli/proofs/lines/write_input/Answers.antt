@@ -1,4 +1,4 @@
 use Rattle.alloc_cli.proofs.lines.write_input.Goals as goal
 
-pub returns-clause-bytes : goal.returns-clause-bytes
-returns-clause-bytes g c = rw (← c.number-kind.ensures) c.write_parts.ensures.bytes
+pub returns : goal.returns
+returns g c = rw (← c.number-kind.ensures) c.write_parts.ensures

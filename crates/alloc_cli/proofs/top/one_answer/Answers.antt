@@ -1,4 +1,4 @@
-use Rattle.alloc_cli.proofs.Completing.{outcome_alone}
+use Rattle.alloc_cli.proofs.OutcomesLemmas.{outcome_alone}
 use Rattle.alloc_cli.proofs.top.one_answer.Goals as goal
 
 pub returns : goal.returns

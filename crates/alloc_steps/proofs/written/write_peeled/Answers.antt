@@ -1,6 +1,7 @@
 -- Piece by piece up to the end.
 use Rattle.std.proofs.Common.{List, ◌∙◌, ◌≤◌, ℕ, arith, subst}
-use Rattle.definitions.specs.Pieces.{IsStep}
+use Rattle.std.proofs.lemmas.Result.{err_from_is_err_and}
+use Rattle.definitions.specs.Peelings.{IsStep}
 use Rattle.device_core.proofs.Continuing.{counts_continued}
 use Rattle.peeling.specs.Peelers.{IsPeeler}
 use Rattle.alloc_steps.proofs.Loop.{so_far_start, so_far_next, so_far_refused, so_far_ended, few_so_far}
@@ -30,12 +31,13 @@ loop-weight-preserved g c =
       counted = counts_continued _ _ _ _ _ _ _ _ _ _ _ c.loop-weight.invariant.counted c.write_given-state.ensures.cause did;
     }
 
-pub returns-in-Err-clause-pieces : goal.returns-in-Err-clause-pieces
-returns-in-Err-clause-pieces g c =
+pub returns-in_err-state-clause-pieces : goal.returns-in_err-state-clause-pieces
+returns-in_err-state-clause-pieces g c =
     let stays = c.in_default.ensures.step in
-    so_far_refused _ _ _ _ _ _ _ _ _ _ _ (rw c.in-Err.is at c.loop-weight.invariant.so_far) (subst IsPeeler stays.1 c.in_default.ensures.lawful) stays.0
+    let p = err_from_is_err_and c.from_residual.result c.from_residual.ensures.1 in
+    rw (p.1, p.2) (so_far_refused _ _ _ _ _ _ _ _ _ _ _ (rw c.in_err-state.was at c.loop-weight.invariant.so_far) (subst IsPeeler stays.1 c.in_default.ensures.lawful) stays.0)
 
-pub returns-in-Ok-clause-pieces : goal.returns-in-Ok-clause-pieces
-returns-in-Ok-clause-pieces g c =
+pub returns-clause-pieces : goal.returns-clause-pieces
+returns-clause-pieces g c =
     let stays = c.in_default.ensures.step in
-    so_far_ended _ _ _ _ _ _ _ _ _ _ _ _ _ (rw c.in-Ok.is at c.loop-weight.invariant.so_far) (subst IsPeeler stays.1 c.in_default.ensures.lawful) stays.0 c.write_end.ensures.bytes
+    so_far_ended _ _ _ _ _ _ _ _ _ _ _ _ _ (rw c.in_ok-state.was at c.loop-weight.invariant.so_far) (subst IsPeeler stays.1 c.in_default.ensures.lawful) stays.0 c.write_end.ensures.bytes

@@ -1,5 +1,0 @@
-use Rattle.alloc_cli.proofs.Listing.{set_row-filled}
-use Rattle.alloc_cli.proofs.sets.put_set.Goals as goal
-
-pub row_bytes-requires : goal.row_bytes-requires
-row_bytes-requires c = set_row-filled c.in_ok-row.row c.args.number c.unwrap-set.result.now c.parent_number.result c.in_ok-row.ensures

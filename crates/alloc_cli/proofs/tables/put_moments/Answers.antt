@@ -1,7 +1,0 @@
-use Rattle.std.proofs.Common.{refl}
-use Rattle.alloc_cli.proofs.Tabling.{moments-more}
-use Rattle.alloc_cli.proofs.tables.put_moments.Goals as goal
-
-pub loop-i-preserved : goal.loop-i-preserved
-loop-i-preserved c =
-    moments-more c.args.moments.now c.loop-i.i _ c.args.into.now.items c.loop-i.into.items c.put_two.new.into.items refl c.loop-i.invariant c.in_ok-put_two.ensures

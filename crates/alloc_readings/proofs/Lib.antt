@@ -1,0 +1,7 @@
+pub mod EatenLemmas
+pub mod FamilyLemmas
+pub mod LotteryLemmas
+pub mod ProblemLemmas
+pub mod QuotasLemmas
+pub mod SharesLemmas
+pub mod TreesLemmas

@@ -1,0 +1,7 @@
+pub mod Eaten
+pub mod Family
+pub mod Lottery
+pub mod Problem
+pub mod Quotas
+pub mod Shares
+pub mod Trees

@@ -1,0 +1,3 @@
+mod RowsLemmas
+pub mod SetsLemmas
+pub mod TableLemmas

@@ -1,0 +1,18 @@
+//! Tests of `run` over devices in memory, one file a command, by public calls only: they cross
+//! every crate, so they stand in a crate of their own, and `alloc_cli` is proved once.
+#![tactic(auto)]
+
+#[cfg(test)]
+mod decompose;
+#[cfg(test)]
+mod devices;
+#[cfg(test)]
+mod pick;
+#[cfg(test)]
+mod runs;
+#[cfg(test)]
+mod sets;
+#[cfg(test)]
+mod table;
+#[cfg(test)]
+mod words;

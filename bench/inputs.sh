@@ -5,7 +5,8 @@
 #   bench/inputs.sh equal N FOLDER                shares.csv and quotas.csv: N agents have equal chances of N objects, one each
 #   bench/inputs.sh mixed N K FOLDER              the same, where the chances are the average of K random orders
 #   bench/inputs.sh shares TABLE QUOTAS FOLDER    shares.csv and quotas.csv: the shares of an eating table, under its quotas and at
-#                                                 most one unit for each agent; at most 1,000 sets in all may be stated
+#                                                 most one unit for each agent; at most 1,000 sets in all may be stated, and
+#                                                 the quotas have no `agent` record
 set -eu
 
 made_lists() {
@@ -79,16 +80,33 @@ equal_quotas() {
         }'
 }
 
+# The fields of a record as they are written, in field[1] and on: a comma within quotes parts none.
+fields='
+    function split_record(line,    k, c, count, quoted) {
+        count = 1; quoted = 0; field[1] = ""
+        for (k = 1; k <= length(line); k++) {
+            c = substr(line, k, 1)
+            if (c == "\"") quoted = !quoted
+            if (c == "," && !quoted) field[++count] = ""; else field[count] = field[count] c
+        }
+        return count
+    }'
+
 table_shares() {
-    awk -F, '
-        $1 == "denominator" { denominator = $2 }
-        $1 == "objects" { printf "agent"; for (a = 2; a < NF; a++) printf ",%s", $a; print "" }
-        $1 == "row" { printf "%s", $2; for (a = 3; a < NF; a++) printf ",%s", $a == "0" ? "" : $a "/" denominator; print "" }' "$1"
+    awk "$fields"'
+        { count = split_record($0) }
+        field[1] == "denominator" { denominator = field[2] }
+        field[1] == "objects" { printf "agent"; for (a = 2; a < count; a++) printf ",%s", field[a]; print "" }
+        field[1] == "row" {
+            printf "%s", field[2]
+            for (a = 3; a < count; a++) printf ",%s", field[a] == "0" ? "" : field[a] "/" denominator
+            print ""
+        }' "$1"
 }
 
 table_quotas() {
     cat "$2"
-    awk -F, '$1 == "row" { print "agent," $2 ",,1" }' "$1"
+    awk "$fields"'{ split_record($0) } field[1] == "row" { print "agent," field[2] ",,1" }' "$1"
 }
 
 case "${1-}" in

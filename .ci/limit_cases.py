@@ -1,0 +1,192 @@
+#!/usr/bin/env python3
+"""The runs at the limits of the inputs.
+
+limit_cases.py write: writes the inputs into the current folder, and beside them what a run must write.
+    lists.csv, quotas.csv    1,000 agents, 200 objects, and 400 sets with 300,000 cells; sets.csv and table.csv are due
+    shares.csv, rows.csv     a matrix of 1,000 by 200 shares, and 1,000 sets with 420,000 cells for it
+    lottery.csv              a lottery of 67,108,864 bytes; first.csv and last.csv are due for its first and last ticket
+limit_cases.py check: reads a lottery for shares.csv and rows.csv from standard input, and ends with 0 where its pieces add up to
+    its rows and each of them keeps every quota; else it says what is wrong and ends with 1.
+"""
+
+import sys
+from collections import Counter
+
+AGENTS = 1000
+OBJECTS = 200
+CHANCES = 20
+ROWS_STATED = AGENTS - 2 * OBJECTS
+FILE_LIMIT = 67108864
+
+
+def write(name, records):
+    with open(name, "w", encoding="utf-8") as file:
+        file.writelines(f"{record}\n" for record in records)
+
+
+def columns():
+    return range(1, OBJECTS + 1)
+
+
+def agents():
+    return range(1, AGENTS + 1)
+
+
+def numbered(word, numbers):
+    return ",".join(f"{word}{number}" for number in numbers)
+
+
+def around(first):
+    """All objects in order from this one on, and after the last the first."""
+    return [(first - 1 + step) % OBJECTS + 1 for step in range(OBJECTS)]
+
+
+def first_choice(agent):
+    return (agent - 1) % OBJECTS + 1
+
+
+def write_lists():
+    """Agent i likes the objects in order from the one of its number on, so each object is the first choice of five agents, which
+    are all of odd number where the object is."""
+    write("lists.csv", ["agent,choices", *(f"p{agent},{numbered('s', around(first_choice(agent)))}" for agent in agents())])
+
+
+def odd_sets(quotas):
+    """For each object the agents of odd number, with these quotas."""
+    yield f"group,odd,{numbered('p', range(1, AGENTS + 1, 2))}"
+    for column in columns():
+        yield f"set,odd s{column},2,{quotas}"
+        yield f"in,odd s{column},odd,s{column}"
+
+
+def write_quotas():
+    write("quotas.csv", [*(f"object,s{column},,4" for column in columns()), *odd_sets(",2")])
+
+
+def write_sets():
+    wholes = [f"set,{column},2,0,4,{AGENTS},0" for column in columns()]
+    odds = [f"set,{OBJECTS + column},2,0,2,{AGENTS // 2},{column}" for column in columns()]
+    write("sets.csv", [*wholes, *odds, f"end,{2 * OBJECTS}"])
+
+
+def eaten(agent):
+    """In fifths, by column. At 2/5 the set of an odd object is full, since five of odd number eat there. They go on with the next
+    object, where ten eat from then on, so that its 4 units are gone at 3/5; nothing is left to them but `none`. The five of even
+    number go on with the next object, which has 2 units left, enough for the rest of the time."""
+    units = [0] * (OBJECTS + 1)
+    own, following = around(first_choice(agent))[:2]
+    units[own - 1], units[following - 1], units[OBJECTS] = (2, 1, 2) if agent % 2 else (3, 2, 0)
+    return units
+
+
+def write_table():
+    wholes = [f"moment,{column},{5 if column % 2 else 3}" for column in columns()]
+    odds = [f"moment,{OBJECTS + column},{2 if column % 2 else 5}" for column in columns()]
+    rows = [f"row,p{agent},{','.join(map(str, eaten(agent)))}" for agent in agents()]
+    head = ["table,1", "denominator,5", f"objects,{numbered('s', columns())},none"]
+    write("table.csv", [*head, *wholes, *odds, *rows, f"end,{AGENTS}"])
+
+
+def shares_of(agent):
+    """By column, in parts of one in CHANCES: an agent has equal shares of the objects from the one of its number on. So each object has
+    5 units in all, and 2 1/2 of them among the agents of odd number."""
+    own = set(around(first_choice(agent))[:CHANCES])
+    return [int(column in own) for column in columns()]
+
+
+def write_shares():
+    rows = [[f"1/{CHANCES}" if share else "" for share in shares_of(agent)] for agent in agents()]
+    named = [f"p{agent},{','.join(row)}" for agent, row in zip(agents(), rows)]
+    write("shares.csv", [f"agent,{numbered('s', columns())}", *named])
+    objects = [f"object,s{column},5,5" for column in columns()]
+    stated = [f"agent,p{agent},1,1" for agent in range(1, ROWS_STATED + 1)]
+    write("rows.csv", [*objects, *stated, *odd_sets("2,3")])
+
+
+def piece(number, names, places):
+    """The piece of this number, of weight 1: each agent gets one place, and from piece to piece it is the next one."""
+    gives = [f"give,{name},{places[(index + number) % OBJECTS]},1" for index, name in enumerate(names)]
+    return [f"piece,{number},1", *gives]
+
+
+def write_lottery():
+    """Pieces of weight 1, of which each agent has each object in equally many. Blank lines fill the file up to the limit."""
+    names = [f"participant-{agent:04}" for agent in agents()]
+    places = [f"spot-{column:03}" for column in columns()]
+    pieces = 10 * OBJECTS
+    units = ",".join(["10"] * OBJECTS)
+    head = ["lottery,1", f"denominator,{pieces}", f"agents,{','.join(names)}", f"objects,{','.join(places)}"]
+    rows = [f"row,{name},{units}" for name in names]
+    with open("lottery.csv", "w", encoding="utf-8") as file:
+        file.writelines(f"{record}\n" for record in [*head, *rows])
+        for number in range(1, pieces + 1):
+            file.writelines(f"{record}\n" for record in piece(number, names, places))
+        file.write(f"end,{pieces}\n")
+        file.write("\n" * (FILE_LIMIT - file.tell()))
+    for name, number in ("first.csv", 1), ("last.csv", pieces):
+        write(name, [f"ticket,{number - 1},{pieces}", *piece(number, names, places), f"end,{AGENTS}"])
+
+
+def need(holds, what):
+    if not holds:
+        sys.exit(what)
+
+
+def read_lottery(lines):
+    """The denominator, the units by agent and object, and the pieces: a weight and the given pairs of agent and object."""
+    units, pieces, denominator, objects = {}, [], 0, []
+    kind, fields = "", []
+    for line in lines:
+        kind, *fields = line.rstrip("\n").split(",")
+        if kind == "denominator":
+            denominator = int(fields[0])
+        elif kind == "objects":
+            objects = fields
+        elif kind == "row":
+            units.update(((fields[0], name), int(field)) for name, field in zip(objects, fields[1:], strict=True))
+        elif kind == "piece":
+            pieces.append((int(fields[1]), []))
+        elif kind == "give":
+            need(fields[2] == "1", f"piece {len(pieces)} gives more than one of an object")
+            pieces[-1][1].append((fields[0], fields[1]))
+    need(kind == "end" and fields == [str(len(pieces))], "the last record isn't the number of pieces")
+    return denominator, units, pieces
+
+
+def check_quotas(number, gives):
+    """Of each object 5, 2 or 3 of them to agents of odd number; and one to each agent whose row is stated."""
+    objects = Counter(name for _, name in gives)
+    odd = Counter(name for agent, name in gives if int(agent[1:]) % 2)
+    takers = Counter(agent for agent, _ in gives)
+    for name in (f"s{column}" for column in range(1, OBJECTS + 1)):
+        need(objects[name] == 5 and odd[name] in (2, 3), f"piece {number} breaks a quota of {name}")
+    for agent in (f"p{agent}" for agent in range(1, ROWS_STATED + 1)):
+        need(takers[agent] == 1, f"piece {number} breaks the quotas of {agent}")
+
+
+def check_lottery():
+    denominator, units, pieces = read_lottery(sys.stdin)
+    due = {(f"p{agent}", f"s{column}"): share for agent in agents() for column, share in zip(columns(), shares_of(agent))}
+    need(denominator == CHANCES and units == due, "the rows aren't the shares")
+    need(sum(weight for weight, _ in pieces) == denominator, "the weights don't add up")
+    given = Counter()
+    for number, (weight, gives) in enumerate(pieces, 1):
+        need(weight >= 1 and len(set(gives)) == len(gives), f"piece {number} has no weight, or a give twice")
+        check_quotas(number, gives)
+        for pair in gives:
+            given[pair] += weight
+    need(all(given[pair] == unit for pair, unit in units.items()), "the pieces don't add up to the rows")
+    need(len({tuple(gives) for _, gives in pieces}) == len(pieces), "two pieces are equal")
+
+
+def write_inputs():
+    write_lists()
+    write_quotas()
+    write_sets()
+    write_table()
+    write_shares()
+    write_lottery()
+
+
+if __name__ == "__main__":
+    {"write": write_inputs, "check": check_lottery}[sys.argv[1]]()

@@ -12,12 +12,12 @@ use Rattle.std.proofs.lemmas.Slice.Eq.{bytes_eq-Decides}
 use Rattle.definitions.specs.Texts.{Row, field, is_name, null_name, has_name, name_index}
 use Rattle.definitions.specs.Values.{HoldsColumn}
 use Rattle.definitions.proofs.Members.{name_test, member_at}
+use Rattle.table_text.proofs.KnownNames.{index-at}
 use Rattle.alloc_input.specs.Objects.{each_once, declared, declared_name}
 use Rattle.alloc_input.specs.Stated.{Setting, Stated, word_of, add_object, add_row, add_demand, add_group, add_bundle, add_set, add_cells, add_kind, add_record, stated_from, stated_by, setting_of, nothing}
 use Rattle.alloc_input.specs.Problems.{LawfulQuotasSuit}
 use Rattle.alloc_input.specs.declared.quotas.words.Word.{Word}
 use Rattle.alloc_input.specs.declared.quotas.words.Word.TheVariants as word
-use Rattle.alloc_input.proofs.KnownNames.{is_some-name_index}
 use Rattle.alloc_input.proofs.OnceEach.{has-each_once}
 use Rattle.alloc_input.proofs.StatedChecks.{some-value}
 use Rattle.alloc_input.proofs.StatedSets.{IsSolveStated, solve-stated}
@@ -53,20 +53,7 @@ each_once-distinct (y ∷ names) = (apart-filter y (each_once names), distinct-f
 
 -- among distinct names each stands at its own place
 pub place-of : (names : List (List ℕ)) (a : ℕ) → IsDistinct bytes_eq names → a < length names → name_index names (get_or names a []) ≡ Some a
-place-of names a d l =
-    let name = get_or names a [] in
-    let there : is_some (name_index names name) ≡ true = is_some-name_index names name ∙ member_at bytes_eq name_test names a [] l in
-    let (b, is) = some-value (name_index names name) there in
-    let at = position-Some (bytes_eq name) names b [] is in
-    let same : get_or names a [] ≡ get_or names b [] = name_test.sound name (get_or names b []) at.1 in
-    let apart = AllPairs-from_IsDistinct bytes_eq-Decides names d in
-    elim (cases_eq b a) [
-      | inl here ↦ is ∙ ap (λ k. Some k) here
-      | inr other ↦ elim (cases_lt b a) [
-        | inl before ↦ absurd (apart b a [] before l (sym same))
-        | inr after ↦ absurd (both_ways (bytes_eq name name) (at.2 a (omega (arith, after, other))) (name_test.self name))
-      ]
-    ]
+place-of names a d l = index-at names a (AllPairs-from_IsDistinct bytes_eq-Decides names d) l
 
 -- ---- each declared object has its record
 

@@ -19,6 +19,7 @@ pub mod Once
 mod OnceEach
 pub mod OneMatrix
 mod ProblemParts
+pub mod ProblemSuits
 mod Ranges
 mod Reading
 mod Rectangles

@@ -12,13 +12,7 @@ use Rattle.std.proofs.lemmas.List.Sums.{position_or_len_is}
 use Rattle.std.proofs.lemmas.Map.Keys.{IsDistinct-push}
 use Rattle.definitions.specs.Texts.{has_name, name_index}
 use Rattle.definitions.proofs.Members.{name_test}
-
--- a name stands where it is and no earlier one is the same
-pub index-is : (names : List (List ℕ)) (name : List ℕ) (k : ℕ) → k < length names → ((j : ℕ) → j < k → bytes_eq name (get_or names j []) ≡ false) → bytes_eq name (get_or names k []) ≡ true
-    → name_index names name ≡ Some k
-index-is names name k l before here =
-    let place : position_or_len (bytes_eq name) names ≡ k = position_or_len_is (bytes_eq name) names k [] (omega (arith, l)) before (λ _. here) in
-    rw (place, lt-ltb k (length names) l) refl
+use Rattle.table_text.proofs.KnownNames.{index-is}
 
 -- it stays where it is when names follow
 pub index-stays : (names more : List (List ℕ)) (name : List ℕ) (k : ℕ) → name_index names name ≡ Some k → name_index (names ++ more) name ≡ Some k

@@ -18,12 +18,12 @@ use Rattle.scaled_matrix.specs.Entries.{IsShare, IsShares}
 use Rattle.table_text.proofs.EveryText.{IsTextOf-some}
 use Rattle.table_text.proofs.TextFacts.{IsTextOf-unique}
 use Rattle.table_text.specs.Rows.{IsTextOf}
+use Rattle.table_text.proofs.KnownNames.{name-new}
 use Rattle.alloc_input.specs.Matrices.{AreLawfulNames, IsMatrix, IsSameShare, ReadsAsMatrix, all_shares, check_header, check_heading, check_shares, entry_texts, header_of, matrix_fault, objects_of, share_in, shares_of}
 use Rattle.alloc_input.specs.Once.{MatrixReadsOnce, ReadsAsLawful}
 use Rattle.alloc_input.specs.Prefs.{agent_rows, agents_of}
 use Rattle.alloc_input.specs.declared.faults.InputKind.TheVariants as kind
 use Rattle.alloc_input.proofs.EntryFacts.{length-texts, limit-kept}
-use Rattle.alloc_input.proofs.KnownNames.{is_some-name_index}
 use Rattle.alloc_input.proofs.LawfulMatrices.{matrix-lawful}
 use Rattle.alloc_input.proofs.NamePlaces.{distinct-new}
 use Rattle.alloc_input.proofs.Once.{HasFaultIn, fault-none, fault-some, fault_in, reads-once}
@@ -144,14 +144,6 @@ all-written rows h =
 
 -- ---- the names of lawful records
 
--- a name that passes as new is none of these
-is-new : (names : List (List ℕ)) (name : List ℕ) → is_none (name_index names name) ≡ true → has_name names name ≡ false
-is-new names name e = sym (is_some-name_index names name) ∙ none-some (name_index names name) e
-  where
-    none-some : (o : Option ℕ) → is_none o ≡ true → is_some o ≡ false
-    none-some None e = refl
-    none-some (Some k) e = absurd (cc e)
-
 heading-new : (earlier : List (List ℕ)) (name : List ℕ) → check_heading earlier name ≡ None → is_none (name_index earlier name) ≡ true
 unfolding check_heading
 heading-new earlier name e = (passed (is_none (name_index earlier name)) kind.RepeatedName _ (passed _ kind.BadName _ e).1).0
@@ -163,7 +155,7 @@ no-names = tt
 objects-distinct : (rows : List Row) → ArePassed rows → IsDistinct bytes_eq (objects_of rows)
 unfolding check_header
 objects-distinct rows h =
-    among-keeps check_heading (IsDistinct bytes_eq) (λ earlier name c d. distinct-new earlier name (is-new earlier name (heading-new earlier name c)) d) (objects_of rows) (passed _ _ _ h.header).1 no-names
+    among-keeps check_heading (IsDistinct bytes_eq) (λ earlier name c d. distinct-new earlier name (name-new earlier name (heading-new earlier name c)) d) (objects_of rows) (passed _ _ _ h.header).1 no-names
 
 agents-distinct : (rows : List Row) → ArePassed rows → (i : ℕ) → i ≤ length (agents_of rows) → IsDistinct bytes_eq (take i (agents_of rows))
 unfolding check_shares
@@ -176,7 +168,7 @@ agents-distinct rows h (suc i) l =
     let named : get_or (agents_of rows) i [] ≡ first_field row = get_or-map first_field (agent_rows rows) i [] [] within in
     let more : take (suc i) (agents_of rows) ≡ take i (agents_of rows) ++ first_field row ∷ [] =
     (let one : suc i ≡ i + 1 = omega arith in rw one (take_more (agents_of rows) i [] (omega (arith, l)) ∙ ap (λ n. take i (agents_of rows) ++ n ∷ []) named)) in
-    rw more (distinct-new (take i (agents_of rows)) (first_field row) (is-new (take i (agents_of rows)) (first_field row) new) (agents-distinct rows h i (omega (arith, l))))
+    rw more (distinct-new (take i (agents_of rows)) (first_field row) (name-new (take i (agents_of rows)) (first_field row) new) (agents-distinct rows h i (omega (arith, l))))
 
 -- ---- a matrix of lawful records
 

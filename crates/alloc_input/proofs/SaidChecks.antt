@@ -7,6 +7,7 @@ use Rattle.std.specs.Str.{bytes_eq, is_utf8}
 use Rattle.std.proofs.lemmas.Bool.{ne_eqb, not-true}
 use Rattle.definitions.specs.Texts.{Row, field, has_name, is_name, name_index, null_name}
 use Rattle.definitions.proofs.Passed.{both-pass}
+use Rattle.table_text.proofs.KnownNames.{name-absent}
 use Rattle.alloc_input.specs.Checks.{first_of, need}
 use Rattle.alloc_input.specs.Quotas.{check_bundle, check_demand, check_group, check_in, check_kind, check_limits, check_members, check_next, check_object, check_quotas, check_row, check_set, check_word, demand_words, fields_fit, in_words, is_below, object_words, row_words, set_words}
 use Rattle.alloc_input.specs.Stated.{Setting, Stated, add_cells, add_demand, add_object, add_row, add_set, agents_named, ceiling_at, columns_named, floor_at, place_named, side_of, word_of}
@@ -14,7 +15,6 @@ use Rattle.alloc_input.specs.declared.faults.InputKind.{InputKind}
 use Rattle.alloc_input.specs.declared.faults.InputKind.TheVariants as kind
 use Rattle.alloc_input.specs.declared.quotas.words.Word.{Word}
 use Rattle.alloc_input.specs.declared.quotas.words.Word.TheVariants as word
-use Rattle.alloc_input.proofs.KnownNames.{is_some-name_index}
 use Rattle.alloc_input.proofs.StatedChecks.{each-passed}
 use Rattle.alloc_input.proofs.Stops.{passed}
 
@@ -46,7 +46,7 @@ next-passed g st (f ∷ fs) e =
 
 -- a name that passes as new is none of these
 is-new : (names : List (List ℕ)) (name : List ℕ) → need (not (is_some (name_index names name))) kind.RepeatedName ≡ None → has_name names name ≡ false
-is-new names name e = sym (is_some-name_index names name) ∙ not-true (is_some (name_index names name)) (passed _ kind.RepeatedName e)
+is-new names name e = name-absent names name (not-true (is_some (name_index names name)) (passed _ kind.RepeatedName e))
 
 module _ (g : Setting) (st : Stated) (row : Row) where
   abbrev object_list : List (Option InputKind)

@@ -11,11 +11,11 @@ use Rattle.std.proofs.lemmas.List.Quantifiers.{position-Some}
 use Rattle.std.proofs.lemmas.Option.{get_or_from_slice_get, slice_get-map, slice_get_within}
 use Rattle.definitions.specs.Texts.{Row, field, has_name, is_name, is_plain, name_index}
 use Rattle.definitions.proofs.Members.{name_test}
+use Rattle.table_text.proofs.KnownNames.{is_some-name_index}
 use Rattle.alloc_input.specs.Cells.{has_number, numbers_to}
 use Rattle.alloc_input.specs.SaidQuotas.{is_name_at, is_number, lists_number, means, numbers_listed}
 use Rattle.alloc_input.specs.Stated.{bind_number, listed, numbers_named}
 use Rattle.alloc_input.proofs.DeclaredSets.{place-of}
-use Rattle.alloc_input.proofs.KnownNames.{is_some-name_index}
 use Rattle.alloc_input.proofs.NumberFacts.{has-range}
 use Rattle.alloc_input.proofs.NamePlaces.{distinct-new}
 

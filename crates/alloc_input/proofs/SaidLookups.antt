@@ -11,6 +11,7 @@ use Rattle.std.proofs.lemmas.Option.{get_or_from_slice_get, slice_get-get_or, sl
 use Rattle.definitions.specs.Texts.{Row, field, has_name, name_index}
 use Rattle.definitions.proofs.Members.{name_test}
 use Rattle.table_text.specs.Records.{begins_with}
+use Rattle.table_text.proofs.KnownNames.{is_some-name_index}
 use Rattle.alloc_input.specs.Cells.{numbers_to}
 use Rattle.alloc_input.specs.Quotas.{check_record}
 use Rattle.alloc_input.specs.SaidQuotas.{set_records}
@@ -18,7 +19,6 @@ use Rattle.alloc_input.specs.Stated.{Setting, Stated, add_kind, agents_named, bi
 use Rattle.alloc_input.specs.declared.quotas.words.Word.{Word}
 use Rattle.alloc_input.specs.declared.quotas.words.Word.TheVariants as word
 use Rattle.alloc_input.proofs.FilledRecords.{push-place}
-use Rattle.alloc_input.proofs.KnownNames.{is_some-name_index}
 use Rattle.alloc_input.proofs.NamePlaces.{index-new, index-stays}
 use Rattle.alloc_input.proofs.SaidChecks.{IsPassed, next-passed, set-passed}
 use Rattle.alloc_input.proofs.SaidFields.{bundles-step, contents-step, groups-step, members-step, names-step}

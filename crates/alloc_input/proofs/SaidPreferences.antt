@@ -18,19 +18,19 @@ use Rattle.definitions.proofs.Members.{name_test}
 use Rattle.definitions.proofs.Passed.{among-keeps, fault-ends, fault-keeps, passed}
 use Rattle.alloc_input.specs.Matrices.{header_of}
 use Rattle.alloc_input.specs.Prefs.{agent_rows, agents_of, check_agent, check_choice, check_choices, check_column, check_end, check_record, column_of, columns_of, fault_of, filled_rows, has_header, list_of, lists_of}
-use Rattle.table_text.specs.Records.{records_of}
+use Rattle.table_text.proofs.KnownNames.{is_some-name_index}
+use Rattle.table_text.specs.Records.{place_of, records_of}
 use Rattle.alloc_input.specs.Problems.{RowsReadAs, in_file, problem_fault, solve_setting}
 use Rattle.alloc_input.specs.Objects.{declared, declared_name, with_name}
 use Rattle.alloc_input.specs.Quotas as quotas
 use Rattle.alloc_input.specs.Quotas.{fields_fit, quotas_fault}
 use Rattle.alloc_input.specs.Stated.{Setting, Stated, nothing, stated_by, stated_from, word_of}
-use Rattle.alloc_input.specs.SaidPreferences.{ending_with_none, list_on, names_on, place_of, with_none}
+use Rattle.alloc_input.specs.SaidPreferences.{ending_with_none, list_on, names_on, with_none}
 use Rattle.alloc_input.specs.declared.faults.InputKind.{InputKind}
 use Rattle.alloc_input.specs.declared.faults.InputKind.TheVariants as kind
 use Rattle.alloc_input.specs.declared.quotas.words.Word.{Word}
 use Rattle.alloc_input.specs.declared.quotas.words.Word.TheVariants as word
 use Rattle.alloc_input.proofs.FilledRecords.{filled-lawful}
-use Rattle.alloc_input.proofs.KnownNames.{is_some-name_index}
 use Rattle.alloc_input.proofs.LawfulLists.{column-passed, some-agents}
 use Rattle.alloc_input.proofs.MatrixSuits.{other-name}
 use Rattle.alloc_input.proofs.NamePlaces.{index-new, index-stays}
@@ -282,7 +282,7 @@ none-apart (r ∷ rows) =
     one-apart _ (field r 1) (filter_map declared_name rows)
     (is-other (nat_le 2 (length r)) (nat_le (length r) 4) (bytes_eq (field r 0) (codes "object")) (bytes_eq (field r 1) null_name) (is_name (field r 1))) (none-apart rows)
 
-declared-apart : (rows : List Row) → has_name (declared rows) null_name ≡ false
+pub declared-apart : (rows : List Row) → has_name (declared rows) null_name ≡ false
 unfolding declared
 declared-apart rows = has-each_once (filter_map declared_name rows) null_name ∙ none-apart rows
 

@@ -1,14 +1,16 @@
 -- What the parts of the reader of quotas hold and answer.
-use Rattle.std.specs.Prelude.{◌≡◌, ◌≤◌, ℕ, List, None, Result, map, Vec, MatchResult, length}
+use Rattle.std.specs.Prelude.{◌≡◌, ◌≤◌, ℕ, List, Option, None, Result, map, Vec, MatchResult, length}
 use Rattle.std.specs.List.{All}
 use Rattle.std.specs.declared.alloc.Global.{Global}
 use Rattle.definitions.specs.Sets.{SetValue, cells_in}
 use Rattle.definitions.specs.Texts.{Row}
-use Rattle.alloc_input.specs.Checks.{Tells}
+use Rattle.alloc_input.specs.Checks.{Checks, Tells}
 use Rattle.alloc_input.specs.Stated.{Setting, Stated, stated_by}
 use Rattle.alloc_input.specs.Quotas.{quotas_fault}
 use Rattle.alloc_input.specs.Marked.{marked_cells, IsMarked}
+use Rattle.alloc_input.specs.declared.faults.InputKind.{InputKind}
 use Rattle.alloc_input.specs.declared.faults.InputRefusal.{InputRefusal}
+use Rattle.alloc_input.specs.declared.faults.Stop.{Stop}
 use Rattle.alloc_input.specs.declared.quotas.open_sets.OpenSet.{OpenSet}
 use Rattle.alloc_input.specs.declared.quotas.state.State.{State}
 
@@ -63,6 +65,10 @@ pub record IsCounted (m n : ℕ) (sets : List OpenSet) (total : ℕ) : Type 0 wh
 -- the sets of a state over this matrix are open and counted
 abbrev pub IsSound : ℕ → ℕ → State → Type 0
 IsSound m n s = IsCounted m n s.sets.items s.total
+
+-- a record is taken: it passes this check, and what it says is added
+abbrev pub Takes : (Setting → Stated → Row → Option InputKind) → (Setting → Stated → Row → Stated) → Setting → State → Row → Result (Unit {0}) Stop → State → Type 0
+Takes check add g old row result new = Checks result (check g (held old) row) (λ _. held new ≡ add g (held old) row)
 
 -- what the records state, where they are lawful, or exactly their fault
 abbrev pub ReadsRecords : Setting → List Row → Result State InputRefusal → Type 0

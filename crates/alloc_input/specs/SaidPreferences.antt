@@ -1,6 +1,7 @@
 -- What the records of preferences say, in the words of the records alone.
-use Rattle.std.specs.Prelude.{◌==◌, ◌∷◌, ◌++◌, ℕ, not, List, [], length, map, filter, drop, if◌then◌else◌, unwrap_or}
-use Rattle.definitions.specs.Texts.{Row, has_name, name_index, null_name}
+use Rattle.std.specs.Prelude.{◌==◌, ◌∷◌, ◌++◌, ℕ, not, List, [], length, map, filter, drop, if◌then◌else◌}
+use Rattle.definitions.specs.Texts.{Row, has_name, null_name}
+use Rattle.table_text.specs.Records.{place_of}
 
 -- the names on an agent's record: its fields after the first that are not empty
 abbrev pub names_on : Row → List (List ℕ)
@@ -13,10 +14,6 @@ ending_with_none names = if has_name names null_name then names else names ++ nu
 -- the objects, and then `none`
 abbrev pub with_none : List (List ℕ) → List (List ℕ)
 with_none objects = objects ++ null_name ∷ []
-
--- where the name stands among these, and 0 where it is none of them
-abbrev pub place_of : List (List ℕ) → List ℕ → ℕ
-place_of names name = unwrap_or (name_index names name) 0
 
 -- the columns of the names on an agent's record, in their order, with that of `none` at the end
 abbrev pub list_on : List (List ℕ) → Row → List ℕ

@@ -1,7 +1,8 @@
 //! The reader of quotas, the second file: sets over the cells of a matrix, and demands. It knows agents and objects by
 //! their names alone.
 
-ghost use Rattle.std.specs.Prelude.{◌≡◌, ◌≤◌, ◌+◌, ◌^◌, IfErr, IfOk, length, true};
+ghost use Rattle.std.specs.Prelude.{◌≡◌, ◌≤◌, ◌+◌, IfErr, IfOk, length, true};
+ghost use Rattle.table_text.specs.Limits.{file_limit};
 ghost use Rattle.alloc_input.specs.Stated.{is_solve, setting_of};
 ghost use Rattle.alloc_input.specs.Quotas.{IsReadFor, QuotasRefusedFor, TextReadsAsDemands, TextReadsAsFamily};
 
@@ -41,7 +42,7 @@ pub fn read_quotas(
     objects: &Names,
     mode: Mode,
 ) -> Result<Family, InputRefusal>
-    requires size { length bytes.now ≤ 2 ^ 26 }
+    requires size { length bytes.now ≤ file_limit }
     requires suits { IsReadFor mode bytes.now agents.now objects.now }
     ensures value { IfOk result (TextReadsAsFamily (setting_of agents.now objects.now (is_solve mode)) bytes.now) }
     ensures fault { IfErr result (QuotasRefusedFor (setting_of agents.now objects.now (is_solve mode)) bytes.now) }
@@ -68,7 +69,7 @@ pub fn read_demands(
     agents: &Names,
     objects: &Names,
 ) -> Result<Vec<u32>, InputRefusal>
-    requires size { length quotas.now ≤ 2 ^ 26 }
+    requires size { length quotas.now ≤ file_limit }
     requires suits { IsReadFor Mode.Solve quotas.now agents.now objects.now }
     ensures value { IfOk result (λ demands. TextReadsAsDemands (setting_of agents.now objects.now true) quotas.now demands.items) }
     ensures fault { IfErr result (QuotasRefusedFor (setting_of agents.now objects.now true) quotas.now) }

@@ -101,13 +101,3 @@ pub decimals-read : (ns : List ℕ) → All (λ n. n < 2 ^ 128) ns → map numbe
 decimals-read [] h = refl
 decimals-read (n ∷ ns) h =
     rw (count_of-decimal n (All-head (λ (n : ℕ). n < 2 ^ 128) n ns h), decimals-read ns (All-tail (λ (n : ℕ). n < 2 ^ 128) n ns h)) refl
-
--- a name stands where it was put
-pub index-at : (names : List (List ℕ)) (k : ℕ) → AllPairs (λ a b. a ≢ b) names → k < length names → name_index names (get_or names k []) ≡ Some k
-index-at names k apart lt =
-    let name = get_or names k [] in
-    let first : position_or_len (bytes_eq name) names ≡ k =
-    position_or_len_is (bytes_eq name) names k [] (omega arith)
-    (λ i l. false_from_ne_true (bytes_eq name (get_or names i [])) (λ e. apart i k [] l lt (sym ((bytes_eq-Decides name (get_or names i [])).0 e))))
-    (λ l. (bytes_eq-Decides name name).1 refl) in
-    rw (first, lt-ltb k (length names) lt) refl

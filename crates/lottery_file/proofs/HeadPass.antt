@@ -9,6 +9,7 @@ use Rattle.std.proofs.lemmas.List.{length-append, length-take, length-drop, leng
 use Rattle.std.proofs.lemmas.List.Elements.{All-nil, All-cons, All-head, All-tail}
 use Rattle.std.proofs.lemmas.List.Sums.{sum_by-append, sum_by-cons}
 use Rattle.definitions.specs.Texts.{is_name, name_index, number}
+use Rattle.table_text.proofs.KnownNames.{index-at}
 use Rattle.lottery_file.specs.Said.{Before, nothing, add}
 use Rattle.lottery_file.specs.Checks.{is_priced, may_follow, is_due}
 use Rattle.lottery_file.specs.Lotteries.{AreLawfulNames, AreColumns}
@@ -16,7 +17,7 @@ use Rattle.lottery_file.specs.Written.{name_rows, share_rows, price_rows}
 use Rattle.lottery_file.specs.declared.words.Word.{Word}
 use Rattle.lottery_file.specs.declared.words.Word.TheVariants as word
 use Rattle.table_text.proofs.RoundTrips.{count_of-decimal}
-use Rattle.lottery_file.proofs.FieldTexts.{one-text, decimal-text, decimals-text, decimals-read, names-text, name-text, index-at}
+use Rattle.lottery_file.proofs.FieldTexts.{one-text, decimal-text, decimals-text, decimals-read, names-text, name-text}
 use Rattle.lottery_file.proofs.Passing.{Passes, passes-none, passes-as}
 use Rattle.lottery_file.proofs.KindsPass.{kind-step, check-lottery, check-denominator, check-names, check-columns, check-row, check-price, agents-pass, columns-pass, entries-pass}
 

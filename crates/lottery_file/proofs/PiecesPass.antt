@@ -13,6 +13,7 @@ use Rattle.definitions.specs.Sets.{cell_of, IsBefore}
 use Rattle.definitions.specs.Values.{PieceValue}
 use Rattle.definitions.specs.Pieces.{AreGives}
 use Rattle.definitions.specs.declared.Give.{Give}
+use Rattle.table_text.proofs.KnownNames.{index-at}
 use Rattle.lottery_file.specs.Said.{Before, add, onto_last}
 use Rattle.lottery_file.specs.Checks.{is_priced, may_follow, is_due, weight_sum, comes_after, follows_gives, follows_last}
 use Rattle.lottery_file.specs.Lotteries.{AreLawfulNames, AreColumns}
@@ -20,7 +21,7 @@ use Rattle.lottery_file.specs.Written.{give_row, piece_rows, pieces_rows, end_ro
 use Rattle.lottery_file.specs.declared.words.Word.{Word}
 use Rattle.lottery_file.specs.declared.words.Word.TheVariants as word
 use Rattle.table_text.proofs.RoundTrips.{count_of-decimal}
-use Rattle.lottery_file.proofs.FieldTexts.{decimal-text, name-text, index-at}
+use Rattle.lottery_file.proofs.FieldTexts.{decimal-text, name-text}
 use Rattle.lottery_file.proofs.Passing.{Passes, passes-none, passes-as, passes-append}
 use Rattle.lottery_file.proofs.KindsPass.{kind-step, check-piece, check-give, check-end}
 use Rattle.lottery_file.proofs.HeadPass.{after_all, after-some}

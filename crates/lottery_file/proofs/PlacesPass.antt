@@ -11,13 +11,14 @@ use Rattle.std.proofs.lemmas.Option.{get_or_from_slice_get, slice_get-get_or}
 use Rattle.std.proofs.lemmas.Slice.Eq.{bytes_eq-Decides}
 use Rattle.definitions.specs.Texts.{null_name, name_index}
 use Rattle.definitions.specs.Lotteries.{ends_with_none}
+use Rattle.table_text.proofs.KnownNames.{index-at}
 use Rattle.lottery_file.specs.Said.{Before, add, with_place}
 use Rattle.lottery_file.specs.Checks.{is_priced, may_follow, is_due}
 use Rattle.lottery_file.specs.Lotteries.{AreLawfulNames, AreColumns, IsRanking}
 use Rattle.lottery_file.specs.Written.{place_rows, worth_rows}
 use Rattle.lottery_file.specs.declared.words.Word.{Word}
 use Rattle.lottery_file.specs.declared.words.Word.TheVariants as word
-use Rattle.lottery_file.proofs.FieldTexts.{name-text, signed-text, signed-reads, index-at}
+use Rattle.lottery_file.proofs.FieldTexts.{name-text, signed-text, signed-reads}
 use Rattle.lottery_file.proofs.Passing.{Passes, passes-none, passes-as, passes-append}
 use Rattle.lottery_file.proofs.KindsPass.{kind-step, check-worth}
 use Rattle.lottery_file.proofs.HeadPass.{after_all, after-some, index-here, agent-text}

@@ -8,7 +8,8 @@ use Rattle.std.proofs.lemmas.List.{append-nil, get_or_default}
 use Rattle.std.proofs.lemmas.List.Concat.{flat_map_single}
 use Rattle.definitions.specs.Texts.{Row, field, first_field, number, count_of, null_name, signed}
 use Rattle.lottery_file.specs.Said.{Before, nothing, word_of, add_word, add, column_at, kind_records, last_kind, with_place, said_from, said_by}
-use Rattle.lottery_file.specs.Records.{begins_with, records_of, last_of, agents_in, columns_in}
+use Rattle.table_text.specs.Records.{begins_with, records_of}
+use Rattle.lottery_file.specs.Records.{last_of, agents_in, columns_in}
 use Rattle.lottery_file.specs.declared.words.Word.{Word}
 use Rattle.lottery_file.specs.declared.words.Word.TheVariants as word
 use Rattle.lottery_file.proofs.SaidWords.{name_of, is_kind, kind-test}

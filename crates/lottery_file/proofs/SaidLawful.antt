@@ -9,9 +9,10 @@ use Rattle.definitions.specs.Values.{PieceValue}
 use Rattle.definitions.specs.Firsts.{AreLawful, fault_after}
 use Rattle.definitions.proofs.FirstFaults.{fault-end, fault-past}
 use Rattle.definitions.proofs.Passed.{fault-keeps}
+use Rattle.table_text.specs.Records.{begins_with, place_of, records_of}
 use Rattle.lottery_file.specs.Said.{Before, nothing, word_of, add, add_word, with_place, column_at, if_some, open_places, said_from, said_by}
 use Rattle.lottery_file.specs.Checks.{check_next, check_kind, check_record, check_end, may_follow, fault_of}
-use Rattle.lottery_file.specs.Records.{begins_with, columns_in, records_of, place_of, pieces_along, pieces_in, lists_in, worths_in}
+use Rattle.lottery_file.specs.Records.{columns_in, pieces_along, pieces_in, lists_in, worths_in}
 use Rattle.lottery_file.specs.declared.faults.LotteryKind.{LotteryKind}
 use Rattle.lottery_file.specs.declared.words.Word.{Word}
 use Rattle.lottery_file.specs.declared.words.Word.TheVariants as word

@@ -7,7 +7,8 @@ use Rattle.std.proofs.lemmas.List.{append-nil}
 use Rattle.definitions.specs.Texts.{Row, field, number}
 use Rattle.definitions.specs.Values.{PieceValue}
 use Rattle.lottery_file.specs.Said.{onto_last}
-use Rattle.lottery_file.specs.Records.{begins_with, records_of, give_in, gives_in, pieces_along}
+use Rattle.table_text.specs.Records.{begins_with, records_of}
+use Rattle.lottery_file.specs.Records.{give_in, gives_in, pieces_along}
 
 -- what stands before the first that passes
 pub before-yes : {X : Type 0} (p : X → Bool) (x : X) (xs : List X) → p x ≡ true → before_first p (x ∷ xs) ≡ []

@@ -8,7 +8,7 @@ use Rattle.std.proofs.lemmas.List.Elements.{filter-append}
 use Rattle.std.proofs.lemmas.Slice.Eq.{bytes_eq-Decides}
 use Rattle.definitions.specs.Texts.{Row, first_field}
 use Rattle.lottery_file.specs.Said.{word_of}
-use Rattle.lottery_file.specs.Records.{begins_with, records_of}
+use Rattle.table_text.specs.Records.{begins_with, records_of}
 use Rattle.lottery_file.specs.declared.words.Word.{Word}
 use Rattle.lottery_file.specs.declared.words.Word.TheVariants as word
 

@@ -15,20 +15,12 @@ use Rattle.definitions.specs.Texts.{null_name, has_name, name_index}
 use Rattle.definitions.specs.Sets.{FamilyValue}
 use Rattle.definitions.specs.Lotteries.{LotteryValue, SolvesFor}
 use Rattle.definitions.specs.Values.{ProblemValue, PricesValue, IsListUpTo}
+use Rattle.table_text.proofs.KnownNames.{name-free}
 use Rattle.lottery_file.specs.Checks.{check_column_name}
 use Rattle.lottery_file.specs.Lotteries.{AreLawfulNames, AreColumns, IsLawfulLottery, IsPriced, IsRanking}
 use Rattle.lottery_file.proofs.FieldTexts.{null-name}
 use Rattle.lottery_file.proofs.Shapes.{plain-columns, pieces-some}
-use Rattle.lottery_file.proofs.SoundNames.{name-known, none-from, columns-push}
-
--- a name that isn't there isn't found
-name-free : (names : List (List ℕ)) (name : List ℕ) → has_name names name ≡ false → is_none (name_index names name) ≡ true
-name-free names name e = elim (cases_Bool (is_some (name_index names name))) [
-  | inl is ↦
-      let (k, at, lt, same) = name-known names name is in
-      absurd (both_ways (has_name names name) e (list_any_at (bytes_eq name) names k [] lt ((bytes_eq-Decides name (get_or names k [])).1 (sym (same [])))))
-  | inr isnt ↦ none-from (name_index names name) isnt
-]
+use Rattle.lottery_file.proofs.SoundNames.{columns-push}
 
 -- `none` may come after names without it
 null-passes : (names : List (List ℕ)) → is_none (name_index names null_name) ≡ true → check_column_name names null_name ≡ None

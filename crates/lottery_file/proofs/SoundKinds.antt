@@ -12,6 +12,7 @@ use Rattle.definitions.specs.Texts.{Row, null_name, field, number, signed}
 use Rattle.definitions.specs.Values.{PieceValue}
 use Rattle.definitions.specs.declared.Give.{Give}
 use Rattle.definitions.specs.Firsts.{first_among}
+use Rattle.table_text.proofs.KnownNames.{name-known}
 use Rattle.lottery_file.specs.Said.{Before, add, with_place, agent_at, column_at}
 use Rattle.lottery_file.specs.Checks.{is_priced, may_follow, is_due, check_word, check_denominator, check_agents, check_column_name, check_row, check_price, check_worth, check_piece, check_give, check_end_record}
 use Rattle.lottery_file.specs.Lotteries.{IsRanking}
@@ -19,7 +20,7 @@ use Rattle.lottery_file.proofs.SoundWords.{IsSound, IsSoundHead, IsSoundBody, Is
 use Rattle.lottery_file.specs.declared.words.Word.{Word}
 use Rattle.lottery_file.specs.declared.words.Word.TheVariants as word
 use Rattle.lottery_file.proofs.SoundChecks.{denominator-passed, agents-passed, price-passed, worth-passed, piece-passed, give-passed, end-passed, follows-Lottery, follows-Denominator, follows-Agents, follows-Objects, follows-Row, follows-Price, follows-Worth, follows-Piece, follows-Give, follows-End, due-Row, due-Worth, due-Piece}
-use Rattle.lottery_file.proofs.SoundNames.{name-known, agents-lawful, columns-lawful}
+use Rattle.lottery_file.proofs.SoundNames.{agents-lawful, columns-lawful}
 use Rattle.lottery_file.proofs.SoundRows.{row-sound}
 use Rattle.lottery_file.proofs.SoundPlaces.{no-places, place-push, place-closes}
 use Rattle.lottery_file.proofs.SoundPieces.{no-pieces, piece-push, give-sound, count-last}

@@ -16,36 +16,10 @@ use Rattle.definitions.specs.Texts.{null_name, is_name, has_name, name_index}
 use Rattle.definitions.specs.Lotteries.{ends_with_none}
 use Rattle.definitions.specs.Firsts.{first_among}
 use Rattle.definitions.proofs.Passed.{among-keeps}
+use Rattle.table_text.proofs.KnownNames.{name-known, name-unknown, none-from}
 use Rattle.lottery_file.specs.Checks.{check_agent_name, check_column_name}
 use Rattle.lottery_file.specs.Lotteries.{AreLawfulNames, AreColumns}
 use Rattle.lottery_file.proofs.SoundChecks.{agent-name-passed, column-name-passed}
-
--- a name that isn't found is none of them
-pub name-unknown : (names : List (List ℕ)) (name : List ℕ) → is_none (name_index names name) ≡ true → (k : ℕ) (d : List ℕ) → k < length names → get_or names k d ≢ name
-name-unknown names name e k d lt same =
-    let past : length names ≤ position_or_len (bytes_eq name) names = grind (arith, nat_tests) in
-    both_ways (bytes_eq name (get_or names k d)) (fails_before_first (bytes_eq name) names k d (omega arith)) ((bytes_eq-Decides name (get_or names k d)).1 (sym same))
-
--- what isn't there has no place
-pub none-from : (o : Option ℕ) → is_some o ≡ false → is_none o ≡ true
-none-from None e = refl
-none-from (Some k) e = cc
-
--- nor is it said to be there
-pub name-absent : (names : List (List ℕ)) (name : List ℕ) → is_some (name_index names name) ≡ false → has_name names name ≡ false
-name-absent names name e =
-    list_any_none (bytes_eq name) names (λ k d lt. false_from_ne_true _ (λ t. name-unknown names name (none-from (name_index names name) e) k d lt (sym ((bytes_eq-Decides name (get_or names k d)).0 t))))
-
--- a name that is found stands at its place
-pub name-known : (names : List (List ℕ)) (name : List ℕ) → is_some (name_index names name) ≡ true
-    → (k : ℕ) × (name_index names name ≡ Some k) × (k < length names) × ((d : List ℕ) → get_or names k d ≡ name)
-name-known names name e = elim (cases_lt (position_or_len (bytes_eq name) names) (length names)) [
-  | inl lt ↦
-      let k = position_or_len (bytes_eq name) names in
-      let is : name_index names name ≡ Some k = rw (lt-ltb k (length names) lt) refl in
-      (k, is, lt, λ d. sym ((bytes_eq-Decides name (get_or names k d)).0 (position-Some (bytes_eq name) names k d is).1))
-  | inr ge ↦ absurd (both_ways (is_some (name_index names name)) (rw (le-ltb (position_or_len (bytes_eq name) names) (length names) ge) refl) e)
-]
 
 -- `none` is known where it is the last name
 pub ends-known : (names : List (List ℕ)) → ends_with_none names ≡ true → (0 < length names) × (get_or names (length names - 1) [] ≡ null_name)

@@ -1,18 +1,11 @@
 -- What stands in the records of a lottery, kind by kind.
-use Rattle.std.specs.Prelude.{◌-◌, ℕ, ℤ, Bool, List, [], ◌∷◌, length, map, drop, filter, codes, if◌then◌else◌, slice_index_or, unwrap_or}
+use Rattle.std.specs.Prelude.{◌-◌, ℕ, ℤ, List, [], ◌∷◌, length, map, drop, codes, if◌then◌else◌, slice_index_or}
 use Rattle.std.specs.List.{before_first}
 use Rattle.std.specs.Str.{bytes_eq}
-use Rattle.definitions.specs.Texts.{Row, field, first_field, number, signed, null_name, name_index}
+use Rattle.definitions.specs.Texts.{Row, field, number, signed, null_name}
 use Rattle.definitions.specs.Values.{PieceValue}
 use Rattle.definitions.specs.declared.Give.{Give}
-
--- whether the record begins with this word
-abbrev pub begins_with : List ℕ → Row → Bool
-begins_with word r = bytes_eq (first_field r) word
-
--- the records that begin with this word
-abbrev pub records_of : List ℕ → List Row → List Row
-records_of word rows = filter (begins_with word) rows
+use Rattle.table_text.specs.Records.{begins_with, place_of, records_of}
 
 -- the last record that begins with this word, and one without fields where there is none
 abbrev pub last_of : List ℕ → List Row → Row
@@ -25,10 +18,6 @@ agents_in rows = drop 1 (last_of (codes "agents") rows)
 -- the names of the columns
 abbrev pub columns_in : List Row → List (List ℕ)
 columns_in rows = drop 1 (last_of (codes "objects") rows)
-
--- where the name stands among these, and 0 where it is none of them
-abbrev pub place_of : List (List ℕ) → List ℕ → ℕ
-place_of names name = unwrap_or (name_index names name) 0
 
 -- the give that a record says
 abbrev pub give_in : List (List ℕ) → List (List ℕ) → Row → Give

@@ -39,7 +39,7 @@ fn add_count(
         count,
     };
     let row = row_of_give(alloc, agents, columns, give)?;
-    row_bytes(alloc, &row, into)
+    row_bytes(&row, into)
 }
 
 // Appends the gives of counts, one for each cell, row by row.
@@ -95,7 +95,7 @@ fn put_gives<K: Sink>(
 {
     for give in gives {
         let row = row_of_give(alloc, agents, columns, *give);
-        put_made(alloc, row, buffer, out)?;
+        put_made(row, buffer, out)?;
     }
     Ok(())
 }
@@ -115,7 +115,7 @@ fn put_piece<K: Sink>(
         (rows_text (piece_rows agents.now columns.now number (piece_value piece.now))) result }
 {
     let row = row_of_two(alloc, b"piece", number, piece.weight);
-    put_made(alloc, row, buffer, out)?;
+    put_made(row, buffer, out)?;
     put_gives(alloc, agents, columns, &piece.gives, buffer, out)
 }
 

@@ -27,12 +27,12 @@ fn put_names<K: Sink>(
         buffer.old.items buffer.new.items
         (rows_text (name_rows denominator agents.now columns.now)) result }
 {
-    put_made(alloc, row_of_words(alloc, b"lottery", b"1"), buffer, out)?;
+    put_made(row_of_words(alloc, b"lottery", b"1"), buffer, out)?;
     let row = row_of_number(alloc, b"denominator", denominator);
-    put_made(alloc, row, buffer, out)?;
+    put_made(row, buffer, out)?;
     let row = row_of_names(alloc, b"agents", agents);
-    put_made(alloc, row, buffer, out)?;
-    put_made(alloc, row_of_names(alloc, b"objects", columns), buffer, out)
+    put_made(row, buffer, out)?;
+    put_made(row_of_names(alloc, b"objects", columns), buffer, out)
 }
 
 // Puts the units of each agent.
@@ -50,7 +50,7 @@ fn put_shares<K: Sink>(
 {
     for agent in 0..shares.agents() {
         let row = row_of_units(alloc, agents.name_at(agent), agent, shares);
-        put_made(alloc, row, buffer, out)?;
+        put_made(row, buffer, out)?;
     }
     Ok(())
 }
@@ -68,7 +68,7 @@ fn put_prices<K: Sink>(
 {
     for (i, price) in prices.iter().enumerate() {
         let row = row_of_two(alloc, b"price", i as u128 + 1, *price as u128);
-        put_made(alloc, row, buffer, out)?;
+        put_made(row, buffer, out)?;
     }
     Ok(())
 }
@@ -90,7 +90,7 @@ fn put_places<K: Sink>(
 {
     for i in 0..list.len() {
         let row = row_of_worth(alloc, agent, columns.name_at(list[i]), worths[i]);
-        put_made(alloc, row, buffer, out)?;
+        put_made(row, buffer, out)?;
     }
     Ok(())
 }

@@ -13,7 +13,8 @@ ghost use Rattle.lottery_file.specs.Said.{if_some, last_kind, open_places, said_
 ghost use Rattle.lottery_file.specs.Checks.{check_record, check_end, fault_of};
 ghost use Rattle.lottery_file.specs.Lotteries.{AreLawfulNames, IsLawfulLottery, lottery_of, ReadsAs, TextReadsAs, TextHasFault};
 ghost use Rattle.lottery_file.specs.Written.{rows_of, lottery_text, parts_text, CanBeWritten};
-ghost use Rattle.lottery_file.specs.Records.{records_of, last_of, agents_in, columns_in, pieces_in, lists_in, place_of, worths_in};
+ghost use Rattle.table_text.specs.Records.{place_of, records_of};
+ghost use Rattle.lottery_file.specs.Records.{last_of, agents_in, columns_in, pieces_in, lists_in, worths_in};
 ghost use Rattle.lottery_file.specs.declared.faults.LotteryKind.{LotteryKind};
 
 /// The fault of a text, which is found from the left, is its first unlawful record, or the end

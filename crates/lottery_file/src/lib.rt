@@ -36,8 +36,6 @@ mod state;
 mod tests;
 mod totals;
 mod words;
-#[cfg(test)]
-mod writer_tests;
 mod writers;
 
 pub use faults::{LotteryFault, LotteryKind, LotteryRefusal};

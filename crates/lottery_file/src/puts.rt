@@ -6,7 +6,6 @@ ghost use Rattle.table_text.specs.Rows.{rows_text};
 ghost use Rattle.lottery_file.specs.Buffers.{Puts};
 
 use device_core::{Sink, SinkFault};
-use std::alloc::Global;
 use table_text::{NoMemory, Row, row_bytes};
 
 // How many bytes may wait.
@@ -24,18 +23,13 @@ fn write_block<K: Sink>(buffer: &mut Vec<u8>, out: &mut K) -> Result<(), SinkFau
 }
 
 // Puts a record.
-fn put_row<K: Sink>(
-    alloc: Global,
-    row: &Row,
-    buffer: &mut Vec<u8>,
-    out: &mut K,
-) -> Result<(), SinkFault>
+fn put_row<K: Sink>(row: &Row, buffer: &mut Vec<u8>, out: &mut K) -> Result<(), SinkFault>
     requires { 0 < length row.now }
     ensures { Puts K.written K.flushed K.faults K.short out.old out.new
         buffer.old.items buffer.new.items
         (rows_text (row.now ∷ [])) result }
 {
-    row_bytes(alloc, row, buffer).map_err(|_| SinkFault::NoMemory)?;
+    row_bytes(row, buffer).map_err(|_| SinkFault::NoMemory)?;
     if buffer.len() <= BLOCK {
         return Ok(());
     }
@@ -44,7 +38,6 @@ fn put_row<K: Sink>(
 
 // Puts a record, where there was memory to make it.
 pub(crate) fn put_made<K: Sink>(
-    alloc: Global,
     made: Result<Row, NoMemory>,
     buffer: &mut Vec<u8>,
     out: &mut K,
@@ -56,5 +49,5 @@ pub(crate) fn put_made<K: Sink>(
         (rows_text (row ∷ [])) result }
 {
     let row = made.map_err(|_| SinkFault::NoMemory)?;
-    put_row(alloc, &row, buffer, out)
+    put_row(&row, buffer, out)
 }

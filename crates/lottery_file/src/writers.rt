@@ -128,7 +128,7 @@ fn put_lottery<K: Sink>(
     let pieces = lottery.pieces.list.as_slice();
     put_pieces(alloc, agents, columns, pieces, buffer, out)?;
     let row = row_of_number(alloc, b"end", pieces.len() as u128);
-    put_made(alloc, row, buffer, out)
+    put_made(row, buffer, out)
 }
 
 /// Writes a lottery: its head, its pieces from number 1 on, and its end.

@@ -2,6 +2,7 @@ mod CountFacts
 mod CutFacts
 mod DigitFacts
 pub mod EveryText
+pub mod KnownNames
 mod MarkFacts
 mod NameFacts
 mod ReadFacts
@@ -10,3 +11,4 @@ mod RowFacts
 mod ShareFacts
 mod SignedFacts
 pub mod TextFacts
+mod WritingFacts

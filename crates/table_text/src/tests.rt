@@ -73,13 +73,13 @@ fn written_records(rt: HostRuntime) -> Result<(), Fail> {
     }
     row.push_number(u128::MAX)?;
     let mut text = Vec::from_slice(alloc, b"x\n")?;
-    row_bytes(alloc, &row, &mut text)?;
+    row_bytes(&row, &mut text)?;
     assert_eq!(rt;
         text.as_slice(),
         b"x\na,\"b,c\",\"d\"\"e\",\"f\rg\",\"h\ni\",,340282366920938463463374607431768211455\n".as_slice()
     );
     let mut text = Vec::new(alloc);
-    row_bytes(alloc, &row_of_words(alloc, b"", b"")?, &mut text)?;
+    row_bytes(&row_of_words(alloc, b"", b"")?, &mut text)?;
     put_two(alloc, b"moment", 1, 10, &mut text)?;
     put_end(alloc, 0, &mut text)?;
     assert_eq!(rt; text.as_slice(), b",\nmoment,1,10\nend,0\n".as_slice());

@@ -57,7 +57,7 @@ pub fn put_number(
     ensures err { OnErr result (into.new.items ≡ into.old.items) }
 {
     let row = row_of_number(alloc, word, number)?;
-    row_bytes(alloc, &row, into)
+    row_bytes(&row, into)
 }
 
 /// Appends the record of a word and two numbers. After `NoMemory` `into` is as before.
@@ -73,7 +73,7 @@ pub fn put_two(
     ensures err { OnErr result (into.new.items ≡ into.old.items) }
 {
     let row = row_of_two(alloc, word, first, second)?;
-    row_bytes(alloc, &row, into)
+    row_bytes(&row, into)
 }
 
 /// Appends the record at the end of a text, with what the text counts. After `NoMemory` `into` is

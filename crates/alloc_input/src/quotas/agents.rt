@@ -2,11 +2,11 @@
 
 ghost use Rattle.std.specs.Prelude.{◌≡◌, ℕ, Bool, List, false, length, IfOk, OnOk};
 ghost use Rattle.definitions.specs.Texts.{has_name};
-ghost use Rattle.alloc_input.specs.Checks.{Checks, Finds};
+ghost use Rattle.alloc_input.specs.Checks.{Finds};
 ghost use Rattle.alloc_input.specs.Stated.{setting_of, add_row, add_demand};
 ghost use Rattle.alloc_input.specs.Quotas.{row_words, check_row, demand_words, check_demand};
 ghost use Rattle.alloc_input.specs.QuotaRecords.{IsDemandRecord, IsRowRecord};
-ghost use Rattle.alloc_input.specs.Reading.{held, AreQuotas, IsSound};
+ghost use Rattle.alloc_input.specs.Reading.{held, AreQuotas, IsSound, Takes};
 
 use crate::faults::{InputKind, Stop};
 use crate::fields::{add_name, find_known, need, need_new, read_name};
@@ -66,8 +66,8 @@ pub(crate) fn take_row(
     state: &mut State,
 ) -> Result<(), Stop>
     requires { IsSound (length agents.now) (length objects.now) state.old }
-    ensures checked { let g = setting_of agents.now objects.now solve in
-        Checks result (check_row g (held state.old) row.now) (λ _. held state.new ≡ add_row g (held state.old) row.now) }
+    ensures checked { Takes check_row add_row (setting_of agents.now objects.now solve)
+        state.old row.now result state.new }
     ensures sound { OnOk result (IsSound (length agents.now) (length objects.now) state.new) }
 {
     let said = read_row(row, agents, state)?;
@@ -124,8 +124,8 @@ pub(crate) fn take_demand(
     state: &mut State,
 ) -> Result<(), Stop>
     requires { IsSound (length agents.now) (length objects.now) state.old }
-    ensures checked { let g = setting_of agents.now objects.now solve in
-        Checks result (check_demand g (held state.old) row.now) (λ _. held state.new ≡ add_demand g (held state.old) row.now) }
+    ensures checked { Takes check_demand add_demand (setting_of agents.now objects.now solve)
+        state.old row.now result state.new }
     ensures sound { OnOk result (IsSound (length agents.now) (length objects.now) state.new) }
 {
     let said = read_demand(row, agents, state)?;

@@ -2,11 +2,11 @@
 
 ghost use Rattle.std.specs.Prelude.{◌≡◌, ℕ, List, false, length, IfOk, OnOk};
 ghost use Rattle.definitions.specs.Texts.{has_name};
-ghost use Rattle.alloc_input.specs.Checks.{Checks, Finds};
+ghost use Rattle.alloc_input.specs.Checks.{Finds};
 ghost use Rattle.alloc_input.specs.Stated.{setting_of, add_object};
 ghost use Rattle.alloc_input.specs.Quotas.{object_words, check_object};
 ghost use Rattle.alloc_input.specs.QuotaRecords.{IsObjectRecord};
-ghost use Rattle.alloc_input.specs.Reading.{held, AreQuotas, IsSound};
+ghost use Rattle.alloc_input.specs.Reading.{held, AreQuotas, IsSound, Takes};
 
 use crate::faults::{InputKind, Stop};
 use crate::fields::{add_name, find_known, is_null, need, need_new, read_name};
@@ -72,8 +72,8 @@ pub(crate) fn take_object(
     state: &mut State,
 ) -> Result<(), Stop>
     requires { IsSound (length agents.now) (length objects.now) state.old }
-    ensures checked { let g = setting_of agents.now objects.now solve in
-        Checks result (check_object g (held state.old) row.now) (λ _. held state.new ≡ add_object g (held state.old) row.now) }
+    ensures checked { Takes check_object add_object (setting_of agents.now objects.now solve)
+        state.old row.now result state.new }
     ensures sound { OnOk result (IsSound (length agents.now) (length objects.now) state.new) }
 {
     let said = read_object(row, objects, solve, state)?;

@@ -1,10 +1,9 @@
 //! The records of a text of quotas, one after the other, whatever their kinds.
 
 ghost use Rattle.std.specs.Prelude.{◌≡◌, ◌≤◌, ℕ, List, Some, length, IfOk, OnOk};
-ghost use Rattle.alloc_input.specs.Checks.{Checks};
 ghost use Rattle.alloc_input.specs.Stated.{setting_of, is_solve, nothing_of, add_kind, add_record};
 ghost use Rattle.alloc_input.specs.Quotas.{check_next, check_word, fields_fit};
-ghost use Rattle.alloc_input.specs.Reading.{held, IsSound, ReadsRecords};
+ghost use Rattle.alloc_input.specs.Reading.{held, IsSound, ReadsRecords, Takes};
 
 use crate::faults::{InputKind, InputRefusal, Stop, refused};
 use crate::fields::need;
@@ -46,8 +45,8 @@ fn take_word(
 ) -> Result<(), Stop>
     requires sound { IsSound (length agents.now) (length objects.now) state.old }
     requires fields { 2 ≤ length row.now }
-    ensures checked { let g = setting_of agents.now objects.now solve in
-        Checks result (check_word word g (held state.old) row.now) (λ _. held state.new ≡ add_kind (Some word) g (held state.old) row.now) }
+    ensures checked { Takes (check_word word) (add_kind (Some word)) (setting_of agents.now objects.now solve)
+        state.old row.now result state.new }
     ensures sound { OnOk result (IsSound (length agents.now) (length objects.now) state.new) }
 {
     match word {
@@ -76,8 +75,8 @@ fn take_record(
     state: &mut State,
 ) -> Result<(), Stop>
     requires { IsSound (length agents.now) (length objects.now) state.old }
-    ensures checked { let g = setting_of agents.now objects.now solve in
-        Checks result (check_next g (held state.old) row.now) (λ _. held state.new ≡ add_record g (held state.old) row.now) }
+    ensures checked { Takes check_next add_record (setting_of agents.now objects.now solve)
+        state.old row.now result state.new }
     ensures sound { OnOk result (IsSound (length agents.now) (length objects.now) state.new) }
 {
     if row.len() == 0 {

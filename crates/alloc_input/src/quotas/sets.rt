@@ -6,7 +6,7 @@ ghost use Rattle.alloc_input.specs.Checks.{Checks, Finds};
 ghost use Rattle.alloc_input.specs.Stated.{setting_of, numbers_named, place_named, add_set, add_cells};
 ghost use Rattle.alloc_input.specs.Quotas.{set_words, check_set, in_words, check_in};
 ghost use Rattle.alloc_input.specs.QuotaRecords.{IsInRecord, IsSetRecord};
-ghost use Rattle.alloc_input.specs.Reading.{held, lists, AreQuotas, IsSound};
+ghost use Rattle.alloc_input.specs.Reading.{held, lists, AreQuotas, IsSound, Takes};
 
 use crate::faults::{InputKind, Stop};
 use crate::fields::{add_name, is_null, need, need_new, read_name};
@@ -67,8 +67,8 @@ pub(crate) fn take_set(
     state: &mut State,
 ) -> Result<(), Stop>
     requires { IsSound (length agents.now) (length objects.now) state.old }
-    ensures checked { let g = setting_of agents.now objects.now solve in
-        Checks result (check_set g (held state.old) row.now) (λ _. held state.new ≡ add_set g (held state.old) row.now) }
+    ensures checked { Takes check_set add_set (setting_of agents.now objects.now solve)
+        state.old row.now result state.new }
     ensures sound { OnOk result (IsSound (length agents.now) (length objects.now) state.new) }
 {
     let said = read_set(row, solve, state)?;
@@ -162,8 +162,8 @@ pub(crate) fn take_in(
     state: &mut State,
 ) -> Result<(), Stop>
     requires { IsSound (length agents.now) (length objects.now) state.old }
-    ensures checked { let g = setting_of agents.now objects.now solve in
-        Checks result (check_in g (held state.old) row.now) (λ _. held state.new ≡ add_cells g (held state.old) row.now) }
+    ensures checked { Takes check_in add_cells (setting_of agents.now objects.now solve)
+        state.old row.now result state.new }
     ensures sound { OnOk result (IsSound (length agents.now) (length objects.now) state.new) }
 {
     let said = read_in(alloc, row, agents, objects, state)?;

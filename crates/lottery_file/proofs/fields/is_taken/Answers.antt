@@ -1,7 +1,7 @@
 use Rattle.std.proofs.Common.{◌≡◌, false}
 use Rattle.std.specs.Prelude.{is_some}
 use Rattle.definitions.specs.Texts.{name_index}
-use Rattle.lottery_file.proofs.SoundNames.{name-absent}
+use Rattle.table_text.proofs.KnownNames.{name-absent}
 use Rattle.lottery_file.proofs.fields.is_taken.Goals as goal
 
 pub returns-clause-free : goal.returns-clause-free

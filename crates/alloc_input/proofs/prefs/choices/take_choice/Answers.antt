@@ -1,7 +1,7 @@
 use Rattle.std.proofs.Common.{◌∙◌, ◌<◌, Some, length, sym, ap, arith}
 use Rattle.std.proofs.lemmas.Bool.{not-false, not-true}
+use Rattle.table_text.proofs.KnownNames.{none-there}
 use Rattle.alloc_input.proofs.Choices.{take-blank, take-null, take-column, unknown-choice, repeated-choice, known-column}
-use Rattle.alloc_input.proofs.KnownNames.{none-there}
 use Rattle.alloc_input.proofs.Stamps.{stamps-set, list-set}
 use Rattle.alloc_input.proofs.Stops.{failed, passed, passed-is, stopped-on}
 use Rattle.alloc_input.proofs.prefs.choices.take_choice.Goals as goal

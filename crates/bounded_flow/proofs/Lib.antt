@@ -14,7 +14,6 @@ pub mod Mending
 pub mod Pushes
 pub mod Repairs
 pub mod Resets
-pub mod Rows
 pub mod Settled
 pub mod Shown
 pub mod Taken

@@ -1,5 +1,7 @@
-ghost use Rattle.std.specs.Prelude.{◌≡◌, ◌+◌, ◌<◌, ◌≤◌, ◌^◌, ◌⊎◌, ◌∷◌, [], All, length, map, IfOk};
-ghost use Rattle.definitions.specs.Sets.{cell_of, row_cells, IsBefore};
+// What no contract says: a net is made, and it is rounded the same again and from no whole units on.
+// Tests of whole runs have the pieces of worked matrices.
+ghost use Rattle.std.specs.Prelude.{◌≡◌, ◌+◌, ◌≤◌, ◌^◌, ◌⊎◌, ◌∷◌, [], All, length, map, IfOk};
+ghost use Rattle.definitions.specs.Sets.{cell_of, IsBefore};
 ghost use Rattle.bounded_flow.specs.Edges.{IsSound, rest_of, wire};
 
 use super::*;
@@ -66,29 +68,6 @@ fn wholes(net: &Net) -> [u32; 4]
 }
 
 #[test]
-fn floors_bind(rt: HostRuntime) -> Result<(), Fail> {
-    let mut net = halves(rt.alloc())?;
-    assert_eq!(rt; net.rest(cell(1, 1)), 1);
-    assert_eq!(rt; net.set_rest(4), 2);
-    assert_eq!(rt; take_one(&mut net), 1);
-    let first = wholes(&net);
-    assert!(rt; first == [1, 0, 0, 1] || first == [0, 1, 1, 0]);
-    assert_eq!(rt; net.set_whole(1), 1);
-    assert_eq!(rt; net.set_whole(4), 1);
-
-    assert_eq!(rt; take_one(&mut net), 1);
-    let second = if first[0] == 1 {
-        [0, 1, 1, 0]
-    } else {
-        [1, 0, 0, 1]
-    };
-    assert_eq!(rt; wholes(&net), second);
-    assert_eq!(rt; net.rest(cell(1, 1)), 0);
-    assert_eq!(rt; net.left(), 0);
-    Ok(())
-}
-
-#[test]
 fn round_twice_is_round_once(rt: HostRuntime) -> Result<(), Fail> {
     let mut net = halves(rt.alloc())?;
     net.round();
@@ -146,77 +125,5 @@ fn cold_as_warm(rt: HostRuntime) -> Result<(), Fail> {
     warm.round();
     round_cold(&mut cold);
     assert_eq!(rt; wholes(&cold), wholes(&warm));
-    Ok(())
-}
-
-// The cells of one agent and so many objects.
-fn cells_of_row(alloc: Global, objects: u32) -> Result<Vec<Cell>, AllocError>
-    ensures { IfOk result (λ cells. cells.items ≡ row_cells objects 0) }
-{
-    let mut cells = Vec::new(alloc);
-    for object in 0..objects {
-        cells.push(cell(0, object))?;
-    }
-    Ok(cells)
-}
-
-// They as a set.
-fn row(alloc: Global, objects: u32) -> Result<QuotaSet, AllocError>
-    ensures { IfOk result (λ set. set ≡ record { side = 1; floor = 1; ceiling = 1; cells = row_cells objects 0 }) }
-{
-    let cells = cells_of_row(alloc, objects)?;
-    Ok(QuotaSet::new(1, 1, 1, cells))
-}
-
-// Takes pieces off until nothing is left, and answers how many; None where one has another weight than 1.
-fn pieces_of_one(net: &mut Net) -> Option<u32>
-    requires { net.old.left < 2 ^ 32 }
-{
-    let mut count = 0;
-    while net.left() > 0 {
-        if take_one(net) != 1 {
-            return None;
-        }
-        count += 1;
-    }
-    Some(count)
-}
-
-#[test]
-fn thirty_equal_shares(rt: HostRuntime) -> Result<(), Fail> {
-    let alloc = rt.alloc();
-    let mut family = Family::new(alloc, 1, 30);
-    family.insert(row(alloc, 30)?)?;
-    let trees = Trees::of(alloc, &family)?;
-    let x = Scaled::new(30, 1, 30, vec![in alloc; 1; 30]?);
-    let mut net = Net::of(alloc, &trees, &family, &x)?;
-    assert_eq!(rt; pieces_of_one(&mut net), Some(30));
-    Ok(())
-}
-
-#[test]
-fn cell_in_no_set(rt: HostRuntime) -> Result<(), Fail> {
-    let alloc = rt.alloc();
-    let family = Family::new(alloc, 1, 1);
-    let trees = Trees::of(alloc, &family)?;
-    let x = Scaled::new(2, 1, 1, vec![in alloc; 1]?);
-    let mut net = Net::of(alloc, &trees, &family, &x)?;
-    assert_eq!(rt; take_one(&mut net), 1);
-    let first = net.whole(cell(0, 0));
-    assert!(rt; first <= 1);
-    assert_eq!(rt; take_one(&mut net), 1);
-    assert_eq!(rt; net.whole(cell(0, 0)), 1 - first);
-    Ok(())
-}
-
-#[test]
-fn no_cell_at_all(rt: HostRuntime) -> Result<(), Fail> {
-    let alloc = rt.alloc();
-    let family = Family::new(alloc, 1, 0);
-    let trees = Trees::of(alloc, &family)?;
-    let x = Scaled::new(3, 1, 0, Vec::new(alloc));
-    let mut net = Net::of(alloc, &trees, &family, &x)?;
-    assert_eq!(rt; take_one(&mut net), 3);
-    assert_eq!(rt; net.left(), 0);
     Ok(())
 }

@@ -1,0 +1,5 @@
+pub mod Certified
+pub mod Moments
+pub mod Ranks
+pub mod Recipes
+pub mod Worths

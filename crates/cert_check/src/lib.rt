@@ -1,9 +1,29 @@
-//! What the checkers of a lottery find: the first check that fails, with its number and its fields.
+//! Whether a lottery is what it should be: checks in a fixed order, of which the first that fails is answered, with its number and
+//! its fields.
 //!
 //! Files, commands and texts aren't known here: who writes a fault down takes its number from here,
 //! and its fields in the order of `specs/Faults`.
 #![tactic(auto)]
 
+mod best;
+mod cells;
+mod counts;
+mod distinct;
 mod faults;
+mod matrix;
+mod pieces;
+mod prices;
+mod same;
+mod sets;
+mod shape;
+mod sums;
+mod totals;
+mod verdicts;
 
+pub use distinct::are_distinct;
 pub use faults::Fault;
+pub use matrix::check_matrix;
+pub use pieces::{check_distinct_pieces, check_pieces};
+pub use prices::check_prices;
+pub use shape::check_shape;
+pub use verdicts::Verdict;

@@ -1,0 +1,16 @@
+mod Assigned
+pub mod Canonical
+mod Certified
+pub mod Gains
+pub mod GiveOrder
+pub mod MatrixPass
+pub mod PieceCounts
+pub mod PiecePass
+pub mod PricePass
+pub mod Quiet
+pub mod RowPrices
+pub mod RowTotals
+pub mod ShapePass
+pub mod ShapeReads
+pub mod SumBounds
+pub mod WholeCells

@@ -1,0 +1,17 @@
+use Rattle.std.proofs.Common.{◌≡◌, ◌<◌, length, sym, ◌∙◌, None, arith}
+use Rattle.definitions.specs.Values.{piece_value}
+use Rattle.std.proofs.lemmas.List.{length-map}
+use Rattle.definitions.proofs.FirstFaults.{first-passes, first-found}
+use Rattle.cert_check.specs.PieceFaults.{cell_fault_in, pieces_value}
+use Rattle.cert_check.proofs.cells.cells.Goals as goal
+
+pub returns-in-Some : goal.returns-in-Some
+returns-in-Some c =
+    let within : c.loop-piece.piece < length (pieces_value c.args.pieces.now) = omega (arith, length-map c.args.pieces.now.list.items piece_value) in
+    sym (first-found (cell_fault_in c.args.x.now (pieces_value c.args.pieces.now)) c.loop-piece.piece (length (pieces_value c.args.pieces.now)) c.in-Some.fault within (sym c.in-Some.ensures)) ∙ c.loop-piece.invariant
+
+pub loop-piece-preserved : goal.loop-piece-preserved
+loop-piece-preserved c =
+    let none : cell_fault_in c.args.x.now (pieces_value c.args.pieces.now) c.loop-piece.piece ≡ None = sym c.cells_in.ensures ∙ c.in_default.is in
+    let within : c.loop-piece.piece < length (pieces_value c.args.pieces.now) = omega (arith, length-map c.args.pieces.now.list.items piece_value) in
+    sym (first-passes (cell_fault_in c.args.x.now (pieces_value c.args.pieces.now)) c.loop-piece.piece (length (pieces_value c.args.pieces.now)) within none) ∙ c.loop-piece.invariant

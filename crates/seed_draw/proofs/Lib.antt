@@ -1,1 +1,4 @@
+pub mod Candidates
+mod DigitsLemmas
+mod Finds
 mod TicketPlaces

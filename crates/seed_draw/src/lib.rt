@@ -1,6 +1,9 @@
-//! From a ticket to the piece that it names. Where the ticket comes from is not known here.
+//! From a seed to the ticket that it names, and from a ticket to its piece. A piece doesn't know
+//! where its ticket comes from.
 //!
 //! ```text
+//! assert_eq!(rt; ticket([0; 32], 6), Some(5));
+//!
 //! let weights = [1, 2, 1, 2];
 //! assert_eq!(rt; piece_at(&weights, 0), 0);
 //! assert_eq!(rt; piece_at(&weights, 1), 1);
@@ -16,6 +19,10 @@ ghost use Rattle.definitions.specs.Tickets.{piece_of};
 ghost use Rattle.seed_draw.specs.Weights.{weights_of};
 
 use definitions::Piece;
+
+mod seed;
+
+pub use seed::ticket;
 
 /// The index of the piece that a ticket names, of pieces with these weights: piece 0 has the first
 /// `weights[0]` tickets, piece 1 the next `weights[1]`, and so on.

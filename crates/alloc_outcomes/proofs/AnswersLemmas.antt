@@ -2,7 +2,7 @@
 use Rattle.std.proofs.Common.{◌≡◌, ◌∙◌, sym, ap, subst, List, [], ◌∷◌, ℕ, Result, Ok, Err, arith, length}
 use Rattle.std.specs.Prelude.{slice_index_or}
 use Rattle.alloc_outcomes.specs.declared.cause.Cause.{Cause}
-use Rattle.alloc_outcomes.specs.Answers.{Answer, refuse, text, RefusesAlone, IsText, Then, Follows, Gives, on_one, on_two}
+use Rattle.alloc_outcomes.specs.Answers.{Answer, refuse, text, RefusesAlone, IsText, Then, Follows, Gives, on_one, on_two, on_three}
 
 -- ---- parts of an outcome
 
@@ -32,7 +32,7 @@ pub passed : {A F : Type 0} {cause_of : F → Cause} {relation : Result A F → 
     → ((r s : Result A F) → relation r → relation s → r ≡ s) → (x : A) → relation (Ok x) → (answer : Answer) → Gives cause_of relation rest answer → rest x answer
 passed {cause_of = cause_of} {rest = rest} one x holds answer g = subst (λ r. Follows cause_of rest r answer) (one g.found (Ok x) g.holds holds) g.follows
 
--- what one file gave, and what two gave
+-- what one file gave, what two gave, and what three gave
 pub on_one_part : (outcome : List ℕ → Answer → Type 0) (given : List (List ℕ)) → length given ≡ 1 → IsPart (outcome (slice_index_or given 0 [])) (on_one outcome given)
 on_one_part outcome [] count answer h = absurd (omega (arith, count))
 on_one_part outcome (first ∷ []) count answer h = h
@@ -43,6 +43,14 @@ on_two_part outcome [] count answer h = absurd (omega (arith, count))
 on_two_part outcome (first ∷ []) count answer h = absurd (omega (arith, count))
 on_two_part outcome (first ∷ second ∷ []) count answer h = h
 on_two_part outcome (first ∷ second ∷ third ∷ more) count answer h = absurd (omega (arith, count))
+
+pub on_three_part : (outcome : List ℕ → List ℕ → List ℕ → Answer → Type 0) (given : List (List ℕ)) → length given ≡ 3
+    → IsPart (outcome (slice_index_or given 0 []) (slice_index_or given 1 []) (slice_index_or given 2 [])) (on_three outcome given)
+on_three_part outcome [] count answer h = absurd (omega (arith, count))
+on_three_part outcome (first ∷ []) count answer h = absurd (omega (arith, count))
+on_three_part outcome (first ∷ second ∷ []) count answer h = absurd (omega (arith, count))
+on_three_part outcome (first ∷ second ∷ third ∷ []) count answer h = h
+on_three_part outcome (first ∷ second ∷ third ∷ fourth ∷ more) count answer h = absurd (omega (arith, count))
 
 -- ---- an outcome that refuses has no other answer
 
@@ -75,3 +83,10 @@ on_two_alone alone [] due answer h k = absurd h
 on_two_alone alone (first ∷ []) due answer h k = absurd h
 on_two_alone alone (first ∷ second ∷ []) due answer h k = alone first second due answer h k
 on_two_alone alone (first ∷ second ∷ third ∷ more) due answer h k = absurd h
+
+pub on_three_alone : {outcome : List ℕ → List ℕ → List ℕ → Answer → Type 0} → ((first second third : List ℕ) → RefusesAlone (outcome first second third)) → (given : List (List ℕ)) → RefusesAlone (on_three outcome given)
+on_three_alone alone [] due answer h k = absurd h
+on_three_alone alone (first ∷ []) due answer h k = absurd h
+on_three_alone alone (first ∷ second ∷ []) due answer h k = absurd h
+on_three_alone alone (first ∷ second ∷ third ∷ []) due answer h k = alone first second third due answer h k
+on_three_alone alone (first ∷ second ∷ third ∷ fourth ∷ more) due answer h k = absurd h

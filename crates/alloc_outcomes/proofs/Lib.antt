@@ -1,3 +1,4 @@
 pub mod AnswersLemmas
+pub mod MeaningsLemmas
 pub mod SentencesLemmas
 pub mod StepsLemmas

@@ -48,3 +48,8 @@ on_one outcome _ answer = ⊥
 abbrev pub on_two : (List ℕ → List ℕ → Answer → Type 0) → List (List ℕ) → Answer → Type 0
 on_two outcome (first ∷ second ∷ []) answer = outcome first second answer
 on_two outcome _ answer = ⊥
+
+-- the same of three files
+abbrev pub on_three : (List ℕ → List ℕ → List ℕ → Answer → Type 0) → List (List ℕ) → Answer → Type 0
+on_three outcome (first ∷ second ∷ third ∷ []) answer = outcome first second third answer
+on_three outcome _ answer = ⊥

@@ -1,6 +1,7 @@
 pub mod Answers
 pub mod Causes
 pub mod Checks
-pub mod Limits
+pub mod Meanings
 pub mod Steps
 pub mod Sentences
+pub use Rattle.table_text.specs.Limits

@@ -21,6 +21,17 @@ impl From<table_text::NoMemory> for Cause {
     }
 }
 
+impl From<quota_sets::NoMemory> for Cause {
+    ghost use Rattle.std.specs.Prelude.{◌≡◌};
+    ghost use Rattle.alloc_outcomes.specs.declared.cause.Cause.TheVariants.{NoMemory};
+
+    ghost from_gives = { λ _ cause. cause ≡ NoMemory };
+
+    fn from(_: quota_sets::NoMemory) -> Cause {
+        Cause::NoMemory
+    }
+}
+
 impl<T: Drop> From<AllocFailed<T>> for Cause {
     ghost use Rattle.std.specs.Prelude.{◌≡◌};
     ghost use Rattle.alloc_outcomes.specs.declared.cause.Cause.TheVariants.{NoMemory};

@@ -4,4 +4,5 @@ pub mod Lottery
 pub mod Problem
 pub mod Quotas
 pub mod Shares
+pub mod Splittable
 pub mod Trees

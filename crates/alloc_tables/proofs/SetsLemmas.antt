@@ -9,9 +9,10 @@ use Rattle.table_text.specs.Rows.{rows_text}
 use Rattle.table_text.proofs.TextFacts.{rows_text-append}
 use Rattle.alloc_outcomes.specs.Answers.{RefusesAlone, IsText}
 use Rattle.alloc_outcomes.proofs.AnswersLemmas.{gives_alone}
+use Rattle.alloc_outcomes.proofs.MeaningsLemmas.{IsMeantOfTwo}
 use Rattle.alloc_readings.proofs.ProblemLemmas.{one_problem, problem_known}
 use Rattle.alloc_readings.proofs.TreesLemmas.{trees_alone}
-use Rattle.alloc_tables.specs.Sets.{set_row, set_rows, sets_text, SetsAnswers}
+use Rattle.alloc_tables.specs.Sets.{set_row, set_rows, sets_meaning, sets_text, SetsAnswers}
 
 -- the record of a set has fields
 pub set_row-filled : (row : Row) (number : ℕ) (s : SetValue) (parent : ℕ) → row ≡ set_row number s parent → 0 < length row
@@ -34,7 +35,10 @@ sets_text-parts p f t n b0 b1 b2 same count empty e1 e2 =
     ∙ ap (λ (k : ℕ). rows_text rows ++ rows_text ((codes "end" ∷ decimal k ∷ []) ∷ [])) count
     ∙ sym (rows_text-append rows ((codes "end" ∷ decimal p.stated ∷ []) ∷ []))
 
-pub sets_alone : (prefs quotas : List ℕ) → RefusesAlone (SetsAnswers prefs quotas)
+sets_alone : (prefs quotas : List ℕ) → RefusesAlone (SetsAnswers prefs quotas)
 sets_alone prefs quotas =
     gives_alone (one_problem prefs quotas) (λ p read.
     trees_alone p.family (problem_known prefs quotas p read) (λ t. IsText (sets_text p t)) (λ t u due answer h k. cc))
+
+pub sets_meant : IsMeantOfTwo sets_meaning
+sets_meant = record { alone = sets_alone; holds = λ prefs quotas run came. tt }

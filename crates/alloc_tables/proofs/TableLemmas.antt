@@ -15,11 +15,12 @@ use Rattle.table_text.specs.Rows.{rows_text}
 use Rattle.alloc_outcomes.specs.Answers.{Answer, Gives, IsText, RefusesAlone}
 use Rattle.alloc_outcomes.specs.Causes.{too_fine_cause}
 use Rattle.alloc_outcomes.proofs.AnswersLemmas.{gives_alone, text_alone}
+use Rattle.alloc_outcomes.proofs.MeaningsLemmas.{IsMeantOfTwo}
 use Rattle.alloc_readings.specs.Eaten.{EatsOrTooFine}
 use Rattle.alloc_readings.proofs.EatenLemmas.{one_table}
 use Rattle.alloc_readings.proofs.ProblemLemmas.{one_problem, problem_known}
 use Rattle.alloc_readings.proofs.TreesLemmas.{trees_alone}
-use Rattle.alloc_tables.specs.Table.{agent_row, columns_row, eaten_rows, eaten_text, head_rows, moment_row, moment_rows, table_rows, units_in, TableAnswers}
+use Rattle.alloc_tables.specs.Table.{agent_row, columns_row, eaten_rows, eaten_text, head_rows, moment_row, moment_rows, table_meaning, table_rows, units_in, TableAnswers}
 use Rattle.alloc_tables.proofs.RowsLemmas.{rows-then, rows-more}
 
 -- one more field after n that go by number
@@ -113,7 +114,10 @@ eaten_text-made p v objects agents x moments denominator count t0 t1 t2 t3 t4 la
 eaten_alone : (p : ProblemValue) → RefusesAlone (Gives too_fine_cause (EatsOrTooFine p) (λ v. IsText (eaten_text p v)))
 eaten_alone p = gives_alone (one_table p) (λ v eaten. text_alone (eaten_text p v))
 
-pub table_alone : (prefs quotas : List ℕ) → RefusesAlone (TableAnswers prefs quotas)
+table_alone : (prefs quotas : List ℕ) → RefusesAlone (TableAnswers prefs quotas)
 table_alone prefs quotas =
     gives_alone (one_problem prefs quotas) (λ p read.
     trees_alone p.family (problem_known prefs quotas p read) (λ t. Gives too_fine_cause (EatsOrTooFine p) (λ v. IsText (eaten_text p v))) (λ t u due answer h k. eaten_alone p due answer h k))
+
+pub table_meant : IsMeantOfTwo table_meaning
+table_meant = record { alone = table_alone; holds = λ prefs quotas run came. tt }

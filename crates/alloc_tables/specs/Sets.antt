@@ -4,6 +4,7 @@ use Rattle.std.specs.Fmt.{decimal}
 use Rattle.std.specs.List.{range_with_len}
 use Rattle.alloc_outcomes.specs.Answers.{Answer, Gives, IsText}
 use Rattle.alloc_outcomes.specs.Causes.{trees_cause, input_cause}
+use Rattle.alloc_outcomes.specs.Meanings.{TwoMeaning}
 use Rattle.alloc_readings.specs.Problem.{ProblemTextReads}
 use Rattle.alloc_readings.specs.Trees.{CrossesOrTrees}
 use Rattle.definitions.specs.Sets.{FamilyValue, SetValue}
@@ -43,3 +44,7 @@ SetsAnswers prefs quotas =
     Gives input_cause (ProblemTextReads prefs quotas) (λ p.
     Gives trees_cause (CrossesOrTrees p.family) (λ t.
     IsText (sets_text p t)))
+
+-- what `sets` means; it has no sentence of the headline
+abbrev pub sets_meaning : TwoMeaning
+sets_meaning = record { answers = SetsAnswers; says = λ prefs quotas run. Unit {0} }

@@ -4,6 +4,7 @@ use Rattle.std.specs.Fmt.{decimal}
 use Rattle.std.specs.List.{range_with_len}
 use Rattle.alloc_outcomes.specs.Answers.{Answer, Gives, IsText}
 use Rattle.alloc_outcomes.specs.Causes.{trees_cause, input_cause, too_fine_cause}
+use Rattle.alloc_outcomes.specs.Meanings.{TwoMeaning}
 use Rattle.alloc_readings.specs.Eaten.{EatsOrTooFine}
 use Rattle.alloc_readings.specs.Problem.{ProblemTextReads}
 use Rattle.alloc_readings.specs.Trees.{CrossesOrTrees}
@@ -74,3 +75,7 @@ TableAnswers prefs quotas =
     Gives trees_cause (CrossesOrTrees p.family) (λ _.
     Gives too_fine_cause (EatsOrTooFine p) (λ v.
     IsText (eaten_text p v))))
+
+-- what `table` means; it has no sentence of the headline
+abbrev pub table_meaning : TwoMeaning
+table_meaning = record { answers = TableAnswers; says = λ prefs quotas run. Unit {0} }

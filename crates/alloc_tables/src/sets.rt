@@ -55,7 +55,7 @@ fn put_set(
 {
     let set = family.get(number).unwrap();
     let row = row_of_set(alloc, number, set, parent_number(trees, number))?;
-    row_bytes(alloc, &row, into)
+    row_bytes(&row, into)
 }
 
 // Appends the records of the first so many sets.

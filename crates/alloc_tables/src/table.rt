@@ -42,7 +42,7 @@ fn put_columns(alloc: Global, objects: &Names, into: &mut Vec<u8>) -> Result<(),
         ≡ into.old.items ++ rows_text (columns_row objects.now ∷ [])) }
 {
     let row = columns_row(alloc, objects)?;
-    row_bytes(alloc, &row, into)
+    row_bytes(&row, into)
 }
 
 // Appends the records before the moments.
@@ -113,7 +113,7 @@ fn put_agent(
         ≡ into.old.items ++ rows_text (eaten_row agents.now shares.now agent ∷ [])) }
 {
     let row = agent_row(alloc, agents, shares, agent)?;
-    row_bytes(alloc, &row, into)
+    row_bytes(&row, into)
 }
 
 // Appends the records of the agents.

@@ -2,30 +2,32 @@
 use Rattle.std.proofs.Common.{◌≡◌, ◌∙◌, ℕ, List, ◌++◌, Option, Some, Result, Ok, Err, ap}
 use Rattle.std.specs.Prelude.{All}
 use Rattle.alloc_input.proofs.KnownSides.{IsKnownSide}
-use Rattle.alloc_outcomes.specs.Answers.{Answer, refuse, Follows, Gives, HasText, RefusesAlone}
+use Rattle.alloc_outcomes.specs.Answers.{Answer, Follows, Gives, HasText, RefusesAlone}
 use Rattle.alloc_outcomes.specs.Causes.{trees_cause, infeasible_cause, input_cause, scale_cause}
 use Rattle.alloc_outcomes.proofs.AnswersLemmas.{gives_alone, passed}
-use Rattle.alloc_outcomes.proofs.SentencesLemmas.{Expected, expected_text, expected_refusal}
+use Rattle.alloc_outcomes.proofs.MeaningsLemmas.{IsMeantOfTwo}
+use Rattle.alloc_outcomes.proofs.SentencesLemmas.{Expected, expected_text, expected_refusal, keeps}
 use Rattle.alloc_readings.specs.Family.{QuotasTextReads}
 use Rattle.alloc_readings.specs.Quotas.{MeetsOrNot}
 use Rattle.alloc_readings.specs.Shares.{ScalesOrNot}
+use Rattle.alloc_readings.specs.Splittable.{IsSplittable}
 use Rattle.alloc_readings.specs.Trees.{CrossesOrTrees}
 use Rattle.alloc_readings.proofs.FamilyLemmas.{family_known, one_family}
 use Rattle.alloc_readings.proofs.QuotasLemmas.{not_feasible, one_meeting}
 use Rattle.alloc_readings.proofs.SharesLemmas.{one_matrix, one_scale}
 use Rattle.alloc_readings.proofs.TreesLemmas.{apart_has_no_pair, trees_alone}
-use Rattle.alloc_steps.specs.Decompose.{DecomposeAnswers, IsLotteryText, IsSplittable, Published}
-use Rattle.alloc_steps.specs.Well.{SplitsWell}
-use Rattle.alloc_steps.proofs.Wells.{well_of}
+use Rattle.alloc_steps.specs.Decompose.{decompose_meaning, DecomposeAnswers}
+use Rattle.alloc_steps.specs.Publishing.{IsLotteryText, Published}
+use Rattle.lottery_laws.specs.SplitsWell.{SplitsWell}
+use Rattle.lottery_laws.proofs.SplitsWellLemmas.{well_of}
 use Rattle.bihierarchy.specs.declared.trees.TreesFault.{TreesFault}
 use Rattle.bihierarchy.specs.declared.trees.TreesFault.TheVariants as trees
-use Rattle.definitions.specs.Lotteries.{LotteryValue, Splits}
+use Rattle.definitions.specs.Lotteries.{Splits}
 use Rattle.definitions.specs.Scaling.{IsScaled}
 use Rattle.definitions.specs.Sets.{FamilyValue, ScaledValue, IsBihierarchy, IsFeasible, IsScaledMatrix}
 use Rattle.definitions.specs.Trees.{TreesValue}
 use Rattle.definitions.specs.Values.{SharesValue}
 use Rattle.definitions.specs.declared.Infeasible.{Infeasible}
-use Rattle.lottery_file.specs.Written.{lottery_text}
 use Rattle.scaled_matrix.proofs.OneAnswer.{over_total_from_entry, too_fine_from_entry}
 use Rattle.scaled_matrix.specs.Entries.{IsShares}
 use Rattle.scaled_matrix.specs.Scaling.{IsOverTotal, IsTooFine}
@@ -37,7 +39,7 @@ use Rattle.scaled_matrix.specs.declared.scaling.ScaleFault.TheVariants as scalin
 split_alone : (given : SharesValue) (x : ScaledValue) (f : FamilyValue) → RefusesAlone (Gives infeasible_cause (MeetsOrNot f x) (λ _. HasText (IsLotteryText (Splits given f))))
 split_alone given x f = gives_alone (one_meeting f x) (λ u meets due answer h k. absurd h)
 
-pub decompose_alone : (matrix quotas : List ℕ) → RefusesAlone (DecomposeAnswers matrix quotas)
+decompose_alone : (matrix quotas : List ℕ) → RefusesAlone (DecomposeAnswers matrix quotas)
 decompose_alone matrix quotas =
     gives_alone (one_matrix matrix) (λ given read.
     gives_alone (one_scale given read.1.shares) (λ x scaled.
@@ -64,23 +66,23 @@ module _ (given : SharesValue) (f : FamilyValue) where
   scale_end : (quotas : List ℕ) (answer : Answer) (r : Result ScaledValue ScaleFault) → IsShares given → QuotasTextReads given quotas (Ok f) → IsBihierarchy f
       → (IsOverTotal given → ⊥) → ((x : ScaledValue) → IsScaled given x → IsScaledMatrix x → IsFeasible f x) → ScalesOrNot given r
       → Follows scale_cause (λ x. Gives input_cause (QuotasTextReads given quotas) (λ g. Gives trees_cause (CrossesOrTrees g) (λ _. Gives infeasible_cause (MeetsOrNot g x) (λ _. HasText (IsLotteryText (Splits given g)))))) r answer
-      → Expected (IsLotteryText (Splits given f)) (IsTooFine given) answer
+      → Expected (IsLotteryText (Splits given f)) (λ _. IsTooFine given) answer
   scale_end quotas answer (Err (scaling.TooFine denominator agent column)) lawful q apart total feasible m h =
-      expected_refusal (IsLotteryText (Splits given f)) (IsTooFine given) denominator answer h (too_fine_from_entry given denominator agent column lawful m)
+      expected_refusal (IsLotteryText (Splits given f)) (λ _. IsTooFine given) denominator answer h (too_fine_from_entry given denominator agent column lawful m)
   scale_end quotas answer (Err (scaling.OverTotal agent column)) lawful q apart total feasible m h = absurd (total (over_total_from_entry given agent column m))
   scale_end quotas answer (Err scaling.NoMemory) lawful q apart total feasible m h = absurd m
   scale_end quotas answer (Ok x) lawful q apart total feasible m h =
       let k = passed (one_family given quotas) f q answer h in
-      expected_text (IsLotteryText (Splits given f)) (IsTooFine given) answer (trees_end x answer k.found (family_known given quotas f q) apart (feasible x m.0 m.1) k.holds k.follows)
+      expected_text (IsLotteryText (Splits given f)) (λ _. IsTooFine given) answer (trees_end x answer k.found (family_known given quotas f q) apart (feasible x m.0 m.1) k.holds k.follows)
 
-  pub decompose_expected : (matrix quotas : List ℕ) (answer : Answer) → IsSplittable matrix quotas given f → DecomposeAnswers matrix quotas answer
-      → Expected (IsLotteryText (Splits given f)) (IsTooFine given) answer
+  decompose_expected : (matrix quotas : List ℕ) (answer : Answer) → IsSplittable matrix quotas given f → DecomposeAnswers matrix quotas answer
+      → Expected (IsLotteryText (Splits given f)) (λ _. IsTooFine given) answer
   decompose_expected matrix quotas answer s h =
       let k = passed (one_matrix matrix) given s.shares answer h in
       scale_end quotas answer k.found s.shares.1.shares s.family s.apart s.total s.feasible k.holds k.follows
 
   -- the text of a lottery that splits the shares publishes it
-  pub decompose_published : (matrix quotas before t : List ℕ) (written : Option (List ℕ)) → IsSplittable matrix quotas given f → IsLotteryText (Splits given f) t → written ≡ Some (before ++ t)
+  decompose_published : (matrix quotas before t : List ℕ) (written : Option (List ℕ)) → IsSplittable matrix quotas given f → IsLotteryText (Splits given f) t → written ≡ Some (before ++ t)
       → Published (SplitsWell given f) before written
   decompose_published matrix quotas before t written s good did = record {
     lottery = good.lottery;
@@ -88,3 +90,13 @@ module _ (given : SharesValue) (f : FamilyValue) where
     has = well_of given f good.lottery good.has (s.feasible good.lottery.shares good.has.scaled good.has.lottery.shares);
     wrote = did ∙ ap (λ (bytes : List ℕ). Some (before ++ bytes)) good.is;
   }
+
+-- ---- its meaning
+
+pub decompose_meant : IsMeantOfTwo decompose_meaning
+decompose_meant = record {
+  alone = decompose_alone;
+  holds = λ matrix quotas run came given f s.
+      keeps (DecomposeAnswers matrix quotas) (IsLotteryText (Splits given f)) (Published (SplitsWell given f) run.before run.written) (λ _. IsTooFine given) run (came s.short.0 s.short.1)
+      (λ answer k. decompose_expected given f matrix quotas answer s k) (λ t good did. decompose_published given f matrix quotas run.before t run.written s good did);
+}

@@ -1,6 +1,13 @@
+mod CopiesLemmas
+mod Decomposed
 pub mod DecomposeLemmas
 mod Filled
 mod Loop
+pub mod ReadsBackLemmas
+mod SmallRecipe
+pub mod SolutionsLemmas
+pub mod SolveLemmas
+pub mod SolvesWellLemmas
+mod Solving
 pub mod Splitting
-pub mod Wells
 mod WritingLemmas

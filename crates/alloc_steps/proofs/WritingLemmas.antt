@@ -8,7 +8,7 @@ use Rattle.alloc_outcomes.specs.declared.cause.Cause.{Cause}
 use Rattle.alloc_outcomes.specs.declared.cause.Cause.TheVariants as causes
 use Rattle.alloc_outcomes.proofs.AnswersLemmas.{IsPart}
 use Rattle.alloc_outcomes.proofs.StepsLemmas.{steps-unwritten}
-use Rattle.alloc_steps.specs.Decompose.{IsLotteryText}
+use Rattle.alloc_steps.specs.Publishing.{IsLotteryText}
 use Rattle.alloc_steps.specs.Writing.{WritesLottery, WritesLotteryOrNothing}
 use Rattle.definitions.specs.Lotteries.{LotteryValue}
 use Rattle.device_core.specs.Counts.{WriterCounts}

@@ -1,4 +1,8 @@
 pub mod Decompose
 pub mod Filling
-pub mod Well
+pub mod Publishing
+pub mod ReadsBack
+pub mod Solutions
+pub mod Solve
+pub mod SolvesWell
 pub mod Writing

@@ -8,6 +8,11 @@
 //! let mut out = SureSink::new(alloc);
 //! write_split(alloc, &shares, &family, &trees, &x, &mut out)?;
 //!
+//! // A problem, what is eaten in it, and prices that certify this.
+//! let eaten = eat(alloc, &problem, &trees)?;
+//! let prices = certificate(alloc, &problem, &trees, &eaten)?;
+//! write_solution(alloc, &problem, &trees, &eaten, &prices, &mut out)?;
+//!
 //! // The same with a peeler of one's own, as with lists and prices.
 //! let mut peeler = Peeler::new(alloc, &trees, &family, &x)?;
 //! let mut counts = vec![in alloc; 0; cells]?;
@@ -16,13 +21,17 @@
 //! ```
 #![tactic(auto)]
 
+mod copies;
 mod counts;
 pub mod decompose;
 mod laws;
+mod solution;
+pub mod solve;
 mod split;
 mod written;
 
-pub use laws::splits_well;
+pub use laws::{few_moments_fit, one_solution, solutions_read_back, solves_well};
+pub use solution::write_solution;
 pub use split::write_split;
 pub use written::write_peeled;
 

@@ -4,7 +4,8 @@ use Rattle.definitions.specs.Peelings.{PeelerValue, sets_of}
 use Rattle.definitions.specs.Lotteries.{Splits}
 use Rattle.peeling.specs.Peelers.{IsPeeler, IsStart}
 use Rattle.alloc_steps.specs.Writing.{lottery_with, WritesPieces}
-use Rattle.alloc_steps.proofs.Splitting.{kept_at, split_written, begun}
+use Rattle.alloc_steps.proofs.Decomposed.{begun}
+use Rattle.alloc_steps.proofs.Splitting.{kept_at, split_written}
 use Rattle.alloc_steps.proofs.split.write_split.Goals as goal
 
 pub returns-clause-lottery : goal.returns-clause-lottery

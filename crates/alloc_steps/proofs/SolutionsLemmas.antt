@@ -1,0 +1,82 @@
+-- The lotteries that solve a problem: they are one but for the pieces, and there is one where there are few moments.
+use Rattle.std.proofs.Common.{◌≡◌, ◌∙◌, ◌*◌, ◌<◌, ℕ, List, Option, Some, ap, sym, subst, length, arith}
+use Rattle.std.specs.Prelude.{◌^◌}
+use Rattle.definitions.specs.Certificate.{IsRecipeOf, distinct_moments}
+use Rattle.definitions.specs.Eating.{IsAssignmentOf, demand_sum, share}
+use Rattle.definitions.specs.Lotteries.{LotteryValue, DesignValue, SolvesFor}
+use Rattle.definitions.specs.Sets.{FamilyValue, ScaledValue, cell_of, unit_at}
+use Rattle.definitions.specs.Values.{Market, PieceValue, PricesValue, ProblemValue, IsProblem, column_count, limits_of, market_of}
+use Rattle.eating_laws.proofs.Limits.{demand_total}
+use Rattle.eating_laws.proofs.Unique.{same_table}
+use Rattle.certificate_laws.proofs.RecipePrices.{same_recipe}
+use Rattle.eating.proofs.ManyMoments.{many_moments}
+use Rattle.eating.proofs.OneAnswer.{same_matrix, same_units}
+use Rattle.alloc_steps.specs.Solutions.{FitsWithFew}
+
+-- a table has one assignment
+one_assignment : (width : ℕ) (market : Market) (D : ℕ) (e : List ℕ) (x y : ScaledValue) → IsAssignmentOf width market D e x → IsAssignmentOf width market D e y → x ≡ y
+one_assignment width market D e x y h k =
+    same_matrix x y (h.denominator ∙ sym k.denominator) (h.agents ∙ sym k.agents) (h.columns ∙ sym k.columns)
+    (same_units (length market.agents) width x.units y.units (many x h) (many y k) (λ i a l m. unit x h i a l m ∙ sym (unit y k i a l m)))
+  where
+    many : (z : ScaledValue) → IsAssignmentOf width market D e z → length z.units ≡ length market.agents * width
+    many z g = g.shape ∙ ap (λ n. n * z.columns) g.agents ∙ ap (λ n. length market.agents * n) g.columns
+
+    unit : (z : ScaledValue) → IsAssignmentOf width market D e z → (i a : ℕ) → i < length market.agents → a < width → unit_at width z.units (cell_of i a) ≡ share market D e i a
+    unit z g i a l m =
+        ap (λ n. unit_at n z.units (cell_of i a)) (sym g.columns) ∙ g.units i a (subst (λ n. i < n) (sym g.agents) l) (subst (λ n. a < n) (sym g.columns) m)
+
+-- a lottery by its parts
+make : (agents columns : List (List ℕ)) (shares : ScaledValue) (lists : List (List ℕ)) (prices : Option PricesValue) (pieces : List PieceValue) (design : Option DesignValue) → LotteryValue
+make agents columns shares lists prices pieces design = record {
+  agents = agents;
+  columns = columns;
+  shares = shares;
+  lists = lists;
+  prices = prices;
+  pieces = pieces;
+  design = design;
+}
+
+same_but_pieces : (l m : LotteryValue) → m.agents ≡ l.agents → m.columns ≡ l.columns → m.shares ≡ l.shares → m.lists ≡ l.lists → m.prices ≡ l.prices
+    → m ≡ record l { pieces = m.pieces; design = m.design }
+unfolding make
+same_but_pieces l m a b c d e =
+    ap (λ agents. make agents m.columns m.shares m.lists m.prices m.pieces m.design) a
+    ∙ ap (λ columns. make l.agents columns m.shares m.lists m.prices m.pieces m.design) b
+    ∙ ap (λ shares. make l.agents l.columns shares m.lists m.prices m.pieces m.design) c
+    ∙ ap (λ lists. make l.agents l.columns l.shares lists m.prices m.pieces m.design) d
+    ∙ ap (λ prices. make l.agents l.columns l.shares l.lists prices m.pieces m.design) e
+
+module _ (p : ProblemValue) (f g : FamilyValue) (l m : LotteryValue) (s : SolvesFor f p l) (t : SolvesFor g p m) where
+  table : (m.shares.denominator ≡ l.shares.denominator) × (t.moments ≡ s.moments)
+  table = same_table (market_of p) m.shares.denominator l.shares.denominator t.moments s.moments t.table s.table t.lowest s.lowest
+
+  shares : m.shares ≡ l.shares
+  shares =
+      one_assignment (column_count p) (market_of p) l.shares.denominator s.moments m.shares l.shares
+      (subst (λ D. IsAssignmentOf (column_count p) (market_of p) D s.moments m.shares) table.0
+      (subst (λ e. IsAssignmentOf (column_count p) (market_of p) m.shares.denominator e m.shares) table.1 t.rows))
+      s.rows
+
+  prices : t.prices ≡ s.prices
+  prices =
+      same_recipe p l.shares.denominator s.moments s.problem t.prices s.prices
+      (subst (λ D. IsRecipeOf p D s.moments t.prices) table.0
+      (subst (λ e. IsRecipeOf p m.shares.denominator e t.prices) table.1 t.recipe))
+      s.recipe
+
+  -- two lotteries that solve a problem are one but for the pieces
+  pub one_but_pieces : m ≡ record l { pieces = m.pieces; design = m.design }
+  one_but_pieces =
+      same_but_pieces l m (t.agents ∙ sym s.agents) (t.columns ∙ sym s.columns) shares (t.lists ∙ sym s.lists)
+      (t.priced ∙ ap Some prices ∙ sym s.priced)
+
+-- with few moments, or few limits, no table is too fine
+pub fits_with_few : (p : ProblemValue) → IsProblem p → FitsWithFew p
+fits_with_few p h = record {
+  moments = λ D e table few D' fine. (let many : 2 ^ 116 < demand_sum (market_of p) ^ length (distinct_moments e D) = (many_moments p D' h fine).moments D e table in
+      absurd (omega (arith, few, many, ap (λ n. n ^ length (distinct_moments e D)) (demand_total p h))));
+  limits = λ few D fine. (let many : 2 ^ 116 < demand_sum (market_of p) ^ length (limits_of p) = (many_moments p D h fine).limits in
+      absurd (omega (arith, few, many, ap (λ n. n ^ length (limits_of p)) (demand_total p h))));
+}

@@ -1,0 +1,113 @@
+-- The lottery that a decomposition of what is eaten in a problem makes.
+use Rattle.std.proofs.Common.{◌≡◌, ◌∙◌, ◌++◌, ◌∷◌, [], ℕ, suc, List, Option, Some, Result, arith, inl, length, length-append, refl, subst, sym, true}
+use Rattle.std.specs.Prelude.{slice_get}
+use Rattle.std.specs.List.{AllZip}
+use Rattle.std.proofs.lemmas.Option.{slice_get_within}
+use Rattle.definitions.specs.Certificate.{Certifies, HasShapeOf, IsRecipeOf}
+use Rattle.definitions.specs.Lotteries.{Solves, ends_with_none, matrices_of}
+use Rattle.definitions.specs.Peelings.{PeelerValue, sets_of}
+use Rattle.definitions.specs.Pieces.{Decomposes, WeightedMatrix}
+use Rattle.definitions.specs.Sets.{FamilyValue, ScaledValue, IsScaledMatrix, cells_of, units_of}
+use Rattle.definitions.specs.Texts.{null_name}
+use Rattle.definitions.specs.Values.{IsProblem, PricesValue, ProblemValue}
+use Rattle.definitions.proofs.Gives.{AreShaped}
+use Rattle.device_core.specs.declared.faults.SinkFault.{SinkFault}
+use Rattle.eating.specs.Answers.{IsEatenBy}
+use Rattle.eating.specs.Eaten.{EatenValue}
+use Rattle.eating_laws.proofs.Limits.{agent_count}
+use Rattle.lottery_file.specs.Written.{ShapesAgree}
+use Rattle.peeling.specs.Peelers.{IsPeeler, IsStart}
+use Rattle.alloc_steps.specs.Writing.{lottery_with, WritesLottery, WritesPieces}
+use Rattle.alloc_steps.proofs.Decomposed.{decompose_with, decomposes_at, lawful_with, shaped_at}
+
+-- names and then `none` end with `none`
+ends_after : (names : List (List ℕ)) → ends_with_none (names ++ null_name ∷ []) ≡ true
+ends_after [] = refl
+ends_after (a ∷ []) = refl
+ends_after (a ∷ b ∷ names) = ends_after (b ∷ names)
+
+-- lists of equal length whose entries agree place by place
+zip_places : {X Y : Type 0} (R : X → Y → Type 0) (xs : List X) (ys : List Y) → length ys ≡ length xs
+    → ((i : ℕ) (x : X) (y : Y) → slice_get xs i ≡ Some x → slice_get ys i ≡ Some y → R x y) → AllZip R xs ys
+zip_places R [] [] same each = tt
+zip_places R [] (y ∷ ys) same each = absurd (omega (arith, same))
+zip_places R (x ∷ xs) [] same each = absurd (omega (arith, same))
+zip_places R (x ∷ xs) (y ∷ ys) same each = (each 0 x y refl refl, zip_places R xs ys (omega (arith, same)) (λ i a b e f. each (suc i) a b e f))
+
+-- there is a worth for each place of each list
+worths_agree : (p : ProblemValue) (y : PricesValue) → HasShapeOf p y → AllZip (λ list worth. length worth ≡ length list) p.lists y.worth
+worths_agree p y shape =
+    zip_places (λ list worth. length worth ≡ length list) p.lists y.worth shape.lists
+    (λ i list worth e f. rw (f, e) at (shape.places i (slice_get_within p.lists i list e)))
+
+-- what is eaten in a problem, with prices that certify it
+module _ (p : ProblemValue) (v : EatenValue) (y : PricesValue) (e : List ℕ) (lawful : IsProblem p) (eaten : IsEatenBy p e v) (certified : Certifies p v.shares.denominator (units_of v.shares) y) where
+  abbrev with_none : List (List ℕ)
+  with_none = p.objects ++ null_name ∷ []
+
+  eaten_agents : v.shares.agents ≡ length p.agents
+  eaten_agents = eaten.shares.agents ∙ agent_count p lawful
+
+  eaten_columns : v.shares.columns ≡ length with_none
+  eaten_columns = eaten.shares.columns ∙ sym (length-append p.objects (null_name ∷ []))
+
+  -- it has a row for each agent of the family
+  pub family_rows : v.shares.agents ≡ p.family.agents
+  family_rows = eaten_agents ∙ sym lawful.family_agents
+
+  -- it can be written
+  shapes : ShapesAgree p.agents with_none v.shares p.lists (Some y)
+  shapes = record {
+    row_each = eaten_agents;
+    unit_each = eaten_columns;
+    listed = record { many = lawful.lists_many; places = worths_agree p y certified.shape };
+  }
+
+  -- pieces that decompose it make a lottery that solves the problem
+  solves_with : (ps : List WeightedMatrix) → IsScaledMatrix v.shares → IsRecipeOf p v.shares.denominator e y → AreShaped v.shares.agents v.shares.columns ps
+      → Decomposes v.shares.columns (cells_of p.family) v.shares.units v.shares.denominator ps → Solves p (lottery_with p.agents with_none v.shares p.lists (Some y) ps)
+  solves_with ps matrix recipe shaped decompose = record {
+    problem = lawful;
+    lottery = lawful_with p.agents with_none v.shares p.lists (Some y) ps matrix eaten_agents eaten_columns
+        (inl (record { named = ends_after p.objects; prices = y; given = refl; lists = lawful.lists_many; worths = certified.shape.lists ∙ lawful.lists_many }))
+        shaped (cells_of p.family) decompose;
+    agents = refl;
+    columns = refl;
+    lists = refl;
+    moments = e;
+    prices = y;
+    table = eaten.table;
+    lowest = eaten.lowest;
+    rows = eaten.shares;
+    priced = refl;
+    recipe = recipe;
+    certified = certified;
+    pieces = subst (λ c. Decomposes c (cells_of p.family) v.shares.units v.shares.denominator (matrices_of (lottery_with p.agents with_none v.shares p.lists (Some y) ps))) eaten.shares.columns
+        (decompose_with p.agents with_none v.shares p.lists (Some y) ps eaten_columns shaped (cells_of p.family) decompose);
+  }
+
+  -- the lottery that is written with the pieces of such a decomposition
+  solved_written : {K T : Type 0} (written : K → Option (List ℕ)) (w : PeelerValue) (old new : K) (r : Result T SinkFault) → IsScaledMatrix v.shares → IsRecipeOf p v.shares.denominator e y
+      → IsStart p.family v.shares w → IsPeeler w
+      → WritesPieces w.columns (sets_of w) w.rest w.left (lottery_with p.agents with_none v.shares p.lists (Some y)) (written old) (written new) r → WritesLottery written (Solves p) old new r
+  solved_written written w old new r matrix recipe start peeler did =
+      let wide : v.shares.columns ≡ p.family.columns = eaten.shares.columns ∙ sym lawful.family_columns in
+      let shaped : AreShaped v.shares.agents v.shares.columns did.pieces = shaped_at p.family v.shares w did.pieces start wide did.decompose peeler family_rows in
+      record {
+        lottery = lottery_with p.agents with_none v.shares p.lists (Some y) did.pieces;
+        plain = refl;
+        has = solves_with did.pieces matrix recipe shaped (decomposes_at p.family v.shares w did.pieces start wide did.decompose);
+        bytes = did.bytes;
+      }
+
+  -- ---- the same of what the calls of the problem and of what is eaten give
+
+  pub shapes_made : (agents names lists : List (List ℕ)) (x : ScaledValue) → agents ≡ p.agents → names ≡ with_none → lists ≡ p.lists → x ≡ v.shares → ShapesAgree agents names x lists (Some y)
+  shapes_made agents names lists x of_agents of_names of_lists of_shares = rw (of_agents, of_names, of_lists, of_shares) shapes
+
+  pub solved_made : {K T : Type 0} (written : K → Option (List ℕ)) (w : PeelerValue) (old new : K) (r : Result T SinkFault) → IsScaledMatrix v.shares → IsRecipeOf p v.shares.denominator e y
+      → (agents names lists : List (List ℕ)) (x : ScaledValue) (f : FamilyValue) → agents ≡ p.agents → names ≡ with_none → lists ≡ p.lists → x ≡ v.shares → f ≡ p.family
+      → IsStart f x w → IsPeeler w
+      → WritesPieces w.columns (sets_of w) w.rest w.left (lottery_with agents names x lists (Some y)) (written old) (written new) r → WritesLottery written (Solves p) old new r
+  solved_made written w old new r matrix recipe agents names lists x f of_agents of_names of_lists of_shares of_family start peeler did =
+      solved_written written w old new r matrix recipe (rw (of_family, of_shares) at start) peeler (rw (of_agents, of_names, of_lists, of_shares) at did)

@@ -1,1 +1,3 @@
+pub mod DrawLemmas
 pub mod PickLemmas
+mod PickedLemmas

@@ -1,1 +1,3 @@
+pub mod Draw
 pub mod Pick
+pub mod Picked

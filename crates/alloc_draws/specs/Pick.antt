@@ -1,35 +1,12 @@
--- `pick`: what it writes of the piece of a ticket, and what it answers.
-use Rattle.std.specs.Prelude.{ℕ, ◌+◌, ◌<◌, ◌≤◌, List, [], ◌∷◌, ◌++◌, codes, length, map, slice_index_or, Result, Ok, Err}
-use Rattle.std.specs.Fmt.{decimal}
+-- `pick`: whether there is such a ticket, and what it answers.
+use Rattle.std.specs.Prelude.{ℕ, ◌<◌, ◌≤◌, List, Result, Ok, Err}
+use Rattle.alloc_draws.specs.Picked.{picked_text}
 use Rattle.alloc_outcomes.specs.Answers.{Answer, Gives, IsText}
 use Rattle.alloc_outcomes.specs.Causes.{lottery_cause}
+use Rattle.alloc_outcomes.specs.Meanings.{OneMeaning}
 use Rattle.alloc_outcomes.specs.declared.cause.Cause.{Cause}
 use Rattle.alloc_outcomes.specs.declared.cause.Cause.TheVariants as causes
 use Rattle.alloc_readings.specs.Lottery.{LotteryReads}
-use Rattle.definitions.specs.Lotteries.{LotteryValue}
-use Rattle.definitions.specs.Texts.{Row}
-use Rattle.definitions.specs.Tickets.{piece_of}
-use Rattle.definitions.specs.Values.{PieceValue}
-use Rattle.lottery_file.specs.Written.{piece_rows}
-use Rattle.table_text.specs.Rows.{rows_text}
-
--- the records of a ticket of a lottery and of its piece, which has this number: the ticket and out
--- of how many it is, the piece with its gives, and how many gives
-unfoldable pub ticket_rows : LotteryValue → ℕ → ℕ → PieceValue → List Row
-ticket_rows l ticket piece_no p =
-    (codes "ticket" ∷ decimal ticket ∷ decimal l.shares.denominator ∷ [])
-    ∷ (piece_rows l.agents l.columns piece_no p
-    ++ (codes "end" ∷ decimal (length p.gives) ∷ []) ∷ [])
-
--- the place of a ticket's piece in a lottery, from 0
-abbrev pub picked_place : LotteryValue → ℕ → ℕ
-picked_place l ticket = piece_of (map (λ p. p.weight) l.pieces) ticket
-
--- the text of the piece that a ticket names
-unfoldable pub picked_text : LotteryValue → ℕ → List ℕ
-picked_text l ticket =
-    rows_text (ticket_rows l ticket (picked_place l ticket + 1)
-    (slice_index_or l.pieces (picked_place l ticket) (record { weight = 0; gives = [] })))
 
 -- a ticket is below the denominator, or not
 abbrev pub WithinOrNot : ℕ → ℕ → Result (Unit {0}) (Unit {0}) → Type 0
@@ -46,3 +23,7 @@ PickAnswers ticket bytes =
     Gives lottery_cause (LotteryReads bytes) (λ l.
     Gives (ticket_cause ticket l.shares.denominator) (WithinOrNot ticket l.shares.denominator) (λ _.
     IsText (picked_text l ticket)))
+
+-- what `pick` means; it has no sentence of the headline
+abbrev pub pick_meaning : ℕ → OneMeaning
+pick_meaning ticket = record { answers = PickAnswers ticket; says = λ lottery run. Unit {0} }

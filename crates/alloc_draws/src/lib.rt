@@ -1,4 +1,5 @@
-//! Commands that draw from a lottery: `pick` the piece of a ticket.
+//! Commands that draw from a lottery: `pick` the piece of a ticket, and `draw` that of the ticket
+//! that a seed names.
 //!
 //! Each is a step: it reads its files, decides, puts its text together and writes it. No step knows
 //! the words that ask for it, nor any other command.
@@ -12,7 +13,12 @@
 //!
 //! let refused = pick::step(alloc, text, 1, &mut out);
 //! assert_eq!(rt; refused, Err(Cause::TicketOutOfRange { ticket: 1, denominator: 1 }));
+//!
+//! // Each seed names the one ticket of a denominator of 1.
+//! draw::step(alloc, text, [7; 32], &mut out)?;
 //! ```
 #![tactic(auto)]
 
+pub mod draw;
 pub mod pick;
+mod picked;

@@ -1,5 +1,6 @@
 use Rattle.std.proofs.Common.{◌∙◌}
-use Rattle.alloc_draws.specs.Pick.{picked_text, PickAnswers}
+use Rattle.alloc_draws.specs.Pick.{PickAnswers}
+use Rattle.alloc_draws.specs.Picked.{picked_text}
 use Rattle.alloc_draws.proofs.pick.step.Goals as goal
 use Rattle.alloc_outcomes.proofs.AnswersLemmas.{after, itself, text_part}
 use Rattle.alloc_outcomes.proofs.StepsLemmas.{steps-in, steps-refused, steps-short}

@@ -5,9 +5,9 @@ use Rattle.definitions.specs.Values.{piece_value}
 use Rattle.lottery_file.specs.Lotteries.{lottery_value}
 use Rattle.seed_draw.specs.Weights.{weights_of}
 use Rattle.table_text.specs.Rows.{rows_text}
-use Rattle.alloc_draws.specs.Pick.{ticket_rows}
-use Rattle.alloc_draws.proofs.PickLemmas.{picked_text-piece}
-use Rattle.alloc_draws.proofs.pick.picked_text.Goals as goal
+use Rattle.alloc_draws.specs.Picked.{ticket_rows}
+use Rattle.alloc_draws.proofs.PickedLemmas.{picked_text-piece}
+use Rattle.alloc_draws.proofs.picked.picked_text.Goals as goal
 
 pub returns : goal.returns
 returns c =

@@ -5,8 +5,8 @@ use Rattle.definitions.specs.Values.{piece_value}
 use Rattle.lottery_file.specs.Lotteries.{lottery_value}
 use Rattle.lottery_file.specs.Written.{give_row}
 use Rattle.table_text.specs.Rows.{rows_text}
-use Rattle.alloc_draws.proofs.PickLemmas.{ticket_rows-text}
-use Rattle.alloc_draws.proofs.pick.put_ticket.Goals as goal
+use Rattle.alloc_draws.proofs.PickedLemmas.{ticket_rows-text}
+use Rattle.alloc_draws.proofs.picked.put_ticket.Goals as goal
 
 pub returns : goal.returns
 returns c =

@@ -1,0 +1,5 @@
+pub mod AuditLemmas
+pub mod AuditMatrixLemmas
+mod SoundAudits
+mod SplitAudits
+mod VerdictsLemmas

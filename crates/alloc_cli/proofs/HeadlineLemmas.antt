@@ -1,101 +1,82 @@
--- From what a run does to its headline.
-use Rattle.std.proofs.Common.{◌≡◌, ◌⊎◌, ◌≤◌, ◌+◌, ℕ, List, [], ◌∷◌, ◌++◌, ◌∙◌, ap, subst, refl, Option, Result, Ok, None, Some, inl, inr, length, take, arith, false}
+-- From what a whole run does to the headline.
+use Rattle.std.proofs.Common.{◌≡◌, ◌⊎◌, ◌≤◌, ◌+◌, ℕ, List, [], ◌∷◌, ◌++◌, ◌∙◌, ap, sym, subst, refl, Option, Result, Ok, None, Some, inl, inr, length, map, take, arith, false}
 use Rattle.std.specs.Prelude.{MatchOption, nat_lt}
 use Rattle.std.specs.Io.KnownBytes.{append_known}
+use Rattle.std.specs.Option.{option_map_or}
 use Rattle.std.proofs.lemmas.List.{take_all}
 use Rattle.device_core.specs.Held.{bytes_at}
 use Rattle.device_core.specs.declared.traits.Sink as Sink
 use Rattle.alloc_cli.specs.Complete.{loaded}
 use Rattle.alloc_cli.specs.Headline.{Headline}
-use Rattle.alloc_cli.specs.Outcomes.{answers_of_two, within, Answers, Outcome}
+use Rattle.alloc_cli.specs.Outcomes.{too_long_from, within, Answers, Outcome}
 use Rattle.alloc_cli.specs.Runs.{Ends, FilesCount, IsUnread, names_of}
 use Rattle.alloc_cli.specs.Top.{Ran, Read, Refusal, Unread}
 use Rattle.alloc_cli.specs.Words.{command_of, file_count}
 use Rattle.alloc_cli.specs.declared.words.Command.{Command}
-use Rattle.alloc_cli.specs.declared.words.Command.TheVariants as commands
-use Rattle.alloc_cli.specs.declared.words.TwoFiles.{TwoFiles}
-use Rattle.alloc_cli.specs.declared.words.TwoFiles.TheVariants as two
 use Rattle.alloc_cli.proofs.CompleteLemmas.{given_is}
+use Rattle.alloc_cli.proofs.OutcomesLemmas.{says}
 use Rattle.alloc_outcomes.specs.Answers.{Answer, refuse, text, Then}
 use Rattle.alloc_outcomes.specs.Limits.{file_limit}
-use Rattle.alloc_outcomes.specs.Sentences.{Counts, Keeps}
+use Rattle.alloc_outcomes.specs.Sentences.{Counts, Run}
 use Rattle.alloc_outcomes.specs.Steps.{OutCount}
 use Rattle.alloc_outcomes.specs.declared.cause.Cause.{Cause}
 use Rattle.alloc_outcomes.specs.declared.cause.Cause.TheVariants as causes
-use Rattle.alloc_outcomes.proofs.SentencesLemmas.{Expected}
-use Rattle.alloc_steps.proofs.DecomposeLemmas.{decompose_expected, decompose_published}
+use Rattle.alloc_outcomes.proofs.MeaningsLemmas.{AreShort}
+use Rattle.alloc_outcomes.proofs.SentencesLemmas.{CameBy}
 
-short_two : (a b : List ℕ) → length a ≤ file_limit → length b ≤ file_limit → within (a ∷ b ∷ []) ≡ Ok (a ∷ b ∷ [])
-short_two a b h k =
-    let first : nat_lt file_limit (length a) ≡ false = grind arith in
-    let second : nat_lt file_limit (length b) ≡ false = grind arith in
-    rw (first, second) refl
+-- none of these files is too long
+none_too_long : (number : ℕ) (files : List (List ℕ)) → AreShort files → too_long_from number files ≡ None
+none_too_long number [] short = refl
+none_too_long number (file ∷ files) short =
+    let first : nat_lt file_limit (length file) ≡ false = (let h = short.0 in grind arith) in
+    rw first (none_too_long (number + 1) files short.1)
 
-whole : (bytes : List ℕ) → length bytes ≤ file_limit → take (file_limit + 1) bytes ≡ bytes
-whole bytes h = take_all (file_limit + 1) bytes (omega (arith, h))
+all_within : (files : List (List ℕ)) → AreShort files → within files ≡ Ok files
+all_within files short = rw (none_too_long 1 files short) refl
 
-loads_two : (told : List (List ℕ × List ℕ)) (a b : List ℕ) → length (bytes_at told a) ≤ file_limit → length (bytes_at told b) ≤ file_limit → loaded told (a ∷ b ∷ []) ≡ bytes_at told a ∷ bytes_at told b ∷ []
-loads_two told a b h k =
-    ap (λ bytes. bytes ∷ take (file_limit + 1) (bytes_at told b) ∷ []) (whole (bytes_at told a) h) ∙ ap (λ bytes. bytes_at told a ∷ bytes ∷ []) (whole (bytes_at told b) k)
+-- what loads give of short files is what the files hold
+loads_whole : (told : List (List ℕ × List ℕ)) (names : List (List ℕ)) → AreShort (map (bytes_at told) names) → loaded told names ≡ map (bytes_at told) names
+loads_whole told [] short = refl
+loads_whole told (name ∷ names) short =
+    let first : take (file_limit + 1) (bytes_at told name) ≡ bytes_at told name = (let h = short.0 in take_all (file_limit + 1) (bytes_at told name) (omega (arith, h))) in
+    ap (λ bytes. bytes ∷ loaded told names) first ∙ ap (λ files. bytes_at told name ∷ files) (loads_whole told names short.1)
 
-told_after : (old new : Option (List ℕ)) (before t : List ℕ) → old ≡ Some before → new ≡ append_known old t → new ≡ Some (before ++ t)
-told_after old new before t e h = h ∙ ap (λ o. append_known o t) e
+unread_came : (loads : ℕ) (outcome : Answer → Type 0) (before : List ℕ) (written : Option (List ℕ)) (counts counts' : Counts) (cause : Cause)
+    → IsUnread loads cause → FilesCount counts.files counts'.files cause → CameBy outcome before written counts counts' cause
+unread_came loads outcome before written counts counts' (causes.ReadFault file) unread count = count.rose
+unread_came loads outcome before written counts counts' causes.NoMemory unread count = tt
+unread_came loads outcome before written counts counts' _ unread count = absurd unread
 
-unread_keeps : (loads : ℕ) (cause : Cause) (before now : Counts) (done too_fine : Type 0) → IsUnread loads cause → FilesCount before.files now.files cause → Keeps done too_fine before now cause
-unread_keeps loads (causes.ReadFault file) before now done too_fine unread count = count.rose
-unread_keeps loads causes.NoMemory before now done too_fine unread count = tt
-unread_keeps loads _ before now done too_fine unread count = absurd unread
+-- a run, over an output that tells what was written before
+module _ {K : Type 0} (sink : Sink.Ghosts K) (old new : K) (counts counts' : Counts) (before : List ℕ) (wrote : sink.written old ≡ Some before) where
+  came_from_ends : (outcome : Answer → Type 0) (cause : Cause) → Ends sink outcome old new cause → OutCount counts.out counts'.out cause → CameBy outcome before (sink.written new) counts counts' cause
+  came_from_ends outcome causes.Done ends count = (ends.wrote.whole, ends.wrote.allowed, ends.wrote.bytes ∙ ap (λ o. append_known o ends.wrote.whole) wrote)
+  came_from_ends outcome causes.WriteFault ends count = count.rose
+  came_from_ends outcome causes.NoMemory ends count = tt
+  came_from_ends outcome (causes.ReadFault file) ends count = absurd ends.kind
+  came_from_ends outcome cause ends count = ends.due
 
--- a run, over what was there before, whose answers are such texts or too fine a denominator
-module _ {K : Type 0} (sink : Sink.Ghosts K) (old new : K) (before now : Counts) (good : List ℕ → Type 0) (too_fine done : Type 0) where
-  keeps_from_ends : (outcome : Answer → Type 0) (cause : Cause) → Ends sink outcome old new cause → OutCount before.out now.out cause → ((answer : Answer) → outcome answer → Expected good too_fine answer)
-      → ((t : List ℕ) → good t → sink.written new ≡ append_known (sink.written old) t → done) → Keeps done too_fine before now cause
-  keeps_from_ends outcome causes.Done ends count expect publish = publish ends.wrote.whole (expect (text ends.wrote.whole) ends.wrote.allowed) ends.wrote.bytes
-  keeps_from_ends outcome causes.WriteFault ends count expect publish = count.rose
-  keeps_from_ends outcome causes.NoMemory ends count expect publish = tt
-  keeps_from_ends outcome (causes.ReadFault file) ends count expect publish = absurd ends.kind
-  keeps_from_ends outcome cause ends count expect publish = expect (refuse cause) ends.due
-
-  -- a run of a command whose words, files and answers are known
-  keeps_when : (held : Option (List (List ℕ × List ℕ))) (words : List (List ℕ)) (cause : Cause) (found : Option Command) (command : Command) (told : List (List ℕ × List ℕ)) (given : List (List ℕ))
+  -- a run of a command on what its files hold
+  came_when : (held : Option (List (List ℕ × List ℕ))) (words : List (List ℕ)) (cause : Cause) (found : Option Command) (command : Command) (told : List (List ℕ × List ℕ))
       → MatchOption found (Refusal sink old new cause) (λ it. Unread sink it old new cause ⊎ Read sink held words it old new cause)
-      → found ≡ Some command → held ≡ Some told → loaded told (names_of command words) ≡ given → within given ≡ Ok given
-      → ((answer : Answer) → Answers command given answer → Expected good too_fine answer) → ((t : List ℕ) → good t → sink.written new ≡ append_known (sink.written old) t → done)
-      → FilesCount before.files now.files cause → OutCount before.out now.out cause → Keeps done too_fine before now cause
-  keeps_when held words cause None command told given ran e h loads short expect publish read write = cc
-  keeps_when held words cause (Some it) command told given (inl unread) e h loads short expect publish read write =
-      unread_keeps (file_count it) cause before now done too_fine unread.unread read
-  keeps_when held words cause (Some it) command told given (inr gave) e h loads short expect publish read write =
+      → found ≡ Some command → held ≡ Some told → FilesCount counts.files counts'.files cause → OutCount counts.out counts'.out cause
+      → AreShort (map (bytes_at told) (names_of command words)) → CameBy (Answers command (map (bytes_at told) (names_of command words))) before (sink.written new) counts counts' cause
+  came_when held words cause None command told ran e h read write short = cc
+  came_when held words cause (Some it) command told (inl unread) e h read write short =
+      unread_came (file_count it) (Answers command (map (bytes_at told) (names_of command words))) before (sink.written new) counts counts' cause unread.unread read
+  came_when held words cause (Some it) command told (inr gave) e h read write short =
+      let given : List (List ℕ) = map (bytes_at told) (names_of command words) in
       let same : it ≡ command = cc in
-      let files_are : gave.given ≡ given = given_is held told (names_of it words) gave.given h gave.gave ∙ ap (λ c. loaded told (names_of c words)) same ∙ loads in
+      let files_are : gave.given ≡ given = given_is held told (names_of it words) gave.given h gave.gave ∙ ap (λ c. loaded told (names_of c words)) same ∙ loads_whole told (names_of command words) short in
       let P : Command → Type 0 = λ c. Ends sink (Outcome c gave.given) old new cause in
       let Q : List (List ℕ) → Type 0 = λ g. Ends sink (Outcome command g) old new cause in
-      let ends : Ends sink (Outcome command given) old new cause = subst Q files_are (subst P same gave.ends) in
-      let passed : (answer : Answer) → Outcome command given answer → Expected good too_fine answer = λ answer k. (
-      let R : Result (List (List ℕ)) Cause → Type 0 = λ r. Then r (Answers command) answer in expect answer (subst R short k)) in
-      keeps_from_ends (Outcome command given) cause ends write passed publish
-
--- a sentence on a command on two short files
-keeps_two : {K : Type 0} (sink : Sink.Ghosts K) (held : Option (List (List ℕ × List ℕ))) (words : List (List ℕ)) (old new : K) (counts counts' : Counts) (cause : Cause)
-    → Ran sink held words old new cause → FilesCount counts.files counts'.files cause → OutCount counts.out counts'.out cause
-    → (command : TwoFiles) (name first second before : List ℕ) (told : List (List ℕ × List ℕ)) → command_of (name ∷ first ∷ second ∷ []) ≡ Some (commands.Two command)
-    → words ≡ name ∷ first ∷ second ∷ [] → held ≡ Some told → sink.written old ≡ Some before
-    → (length (bytes_at told first) ≤ file_limit) × (length (bytes_at told second) ≤ file_limit)
-    → (good : List ℕ → Type 0) (too_fine done : Type 0) → ((answer : Answer) → answers_of_two command (bytes_at told first) (bytes_at told second) answer → Expected good too_fine answer)
-    → ((t : List ℕ) → good t → sink.written new ≡ Some (before ++ t) → done) → Keeps done too_fine counts counts' cause
-keeps_two sink held words old new counts counts' cause ran read write command name first second before told form e h o short good too_fine done expect publish =
-    let a = bytes_at told first in
-    let b = bytes_at told second in
-    let is : command_of words ≡ Some (commands.Two command) = ap command_of e ∙ form in
-    let loads : loaded told (names_of (commands.Two command) words) ≡ a ∷ b ∷ [] = rw e (loads_two told first second short.0 short.1) in
-    keeps_when sink old new counts counts' good too_fine done held words cause (command_of words) (commands.Two command) told (a ∷ b ∷ []) ran is h loads (short_two a b short.0 short.1)
-    expect (λ t fine did. publish t fine (told_after (sink.written old) (sink.written new) before t o did)) read write
+      let R : Result (List (List ℕ)) Cause → Type 0 = λ r. Ends sink (Then r (Answers command)) old new cause in
+      let ends : Ends sink (Answers command given) old new cause = subst R (all_within given short) (subst Q files_are (subst P same gave.ends)) in
+      came_from_ends (Answers command given) cause ends write
 
 pub headline : {K : Type 0} (sink : Sink.Ghosts K) (held : Option (List (List ℕ × List ℕ))) (words : List (List ℕ)) (old new : K) (counts counts' : Counts) (cause : Cause)
     → Ran sink held words old new cause → FilesCount counts.files counts'.files cause → OutCount counts.out counts'.out cause
     → Headline held words (sink.written old) (sink.written new) counts counts' cause
-headline sink held words old new counts counts' cause ran read write = record {
-  decompose = λ first second before told e h o given f s.
-      keeps_two sink held words old new counts counts' cause ran read write two.Decompose _ first second before told refl e h o s.short _ _ _
-      (λ answer k. decompose_expected given f _ _ answer s k) (λ t fine did. decompose_published given f _ _ before t (sink.written new) s fine did);
-}
+headline sink held words old new counts counts' cause ran read write command told before is h wrote =
+    let run : Run = record { before = before; written = sink.written new; counts = counts; counts_after = counts'; cause = cause } in
+    says command (map (bytes_at told) (names_of command words)) run (λ short. came_when sink old new counts counts' before wrote held words cause (command_of words) command told ran is h read write short)

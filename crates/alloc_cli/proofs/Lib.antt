@@ -5,3 +5,4 @@ mod LoadLemmas
 mod OutcomesLemmas
 mod PartsLemmas
 mod TopLemmas
+mod WordsLemmas

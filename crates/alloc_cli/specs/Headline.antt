@@ -1,23 +1,24 @@
--- The headline of a run, a sentence for each command that it names, in the words of the
--- definitions.
-use Rattle.std.specs.Prelude.{◌≡◌, ℕ, List, [], ◌∷◌, Option, Some, codes}
+-- The headline of a run: what its command's own sentence says of it, in the words of the definitions.
+use Rattle.std.specs.Prelude.{◌≡◌, ℕ, List, Option, Some, map}
 use Rattle.device_core.specs.Held.{bytes_at}
-use Rattle.alloc_cli.specs.Runs.{Held}
-use Rattle.alloc_outcomes.specs.Sentences.{Counts}
+use Rattle.alloc_cli.specs.Outcomes.{Says}
+use Rattle.alloc_cli.specs.Runs.{Held, names_of}
+use Rattle.alloc_cli.specs.Words.{command_of}
+use Rattle.alloc_cli.specs.declared.words.Command.{Command}
+use Rattle.alloc_outcomes.specs.Sentences.{Counts, Run}
 use Rattle.alloc_outcomes.specs.declared.cause.Cause.{Cause}
-use Rattle.alloc_steps.specs.Decompose.{DecomposeSays}
 
--- what is said of a command on two files, where the words are its name and two more, the files tell
--- what they hold, and the output tells what was written before
-abbrev pub OnTwo : Held → List (List ℕ) → (written : Option (List ℕ))
-    → (name : List ℕ) → (List ℕ → List ℕ → List ℕ → Type 0) → Type 0
-OnTwo held words written name says =
-    (first second before : List ℕ) (told : List (List ℕ × List ℕ))
-    → words ≡ name ∷ first ∷ second ∷ [] → held ≡ Some told → written ≡ Some before
-    → says (bytes_at told first) (bytes_at told second) before
-
--- a sentence for each command that publishes or draws
-pub record Headline (held : Held) (words : List (List ℕ)) (written written' : Option (List ℕ))
-    (counts counts' : Counts) (cause : Cause) : Type 0 where
-  pub decompose : OnTwo held words written (codes "decompose")
-      (λ matrix quotas before. DecomposeSays matrix quotas before written' counts counts' cause)
+-- where the words are a command's, the files tell what they hold, and the output tells what was written
+-- before: what is said of a run of this command on what the named files hold
+abbrev pub Headline : Held → List (List ℕ) → (written written' : Option (List ℕ))
+    → (counts counts' : Counts) → Cause → Type 0
+Headline held words written written' counts counts' cause =
+    (command : Command) (told : List (List ℕ × List ℕ)) (before : List ℕ)
+    → command_of words ≡ Some command → held ≡ Some told → written ≡ Some before
+    → Says command (map (bytes_at told) (names_of command words)) (record {
+      before = before;
+      written = written';
+      counts = counts;
+      counts_after = counts';
+      cause = cause;
+    })

@@ -6,5 +6,6 @@ pub mod Load
 pub mod Outcomes
 pub mod Parts
 pub mod Runs
+pub mod Seed
 pub mod Top
 pub mod Words

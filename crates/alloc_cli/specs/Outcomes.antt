@@ -1,36 +1,59 @@
--- What a command answers, given what its files gave: a refusal, or a text that it may write.
+-- What each command means: what it answers, given what its files gave, a refusal or a text that it may
+-- write; and what is said of its runs.
 use Rattle.std.specs.Prelude.{◌≡◌, ℕ, ◌+◌, List, [], ◌∷◌, length, if◌then◌else◌, nat_lt, Option, None, Some, Result, Ok, Err}
 use Rattle.std.specs.Option.{option_map_or}
 use Rattle.alloc_cli.specs.declared.words.Command.{Command}
 use Rattle.alloc_cli.specs.declared.words.Command.TheVariants as commands
 use Rattle.alloc_cli.specs.declared.words.OneFile.{OneFile}
 use Rattle.alloc_cli.specs.declared.words.OneFile.TheVariants as one
+use Rattle.alloc_cli.specs.declared.words.ThreeFiles.{ThreeFiles}
+use Rattle.alloc_cli.specs.declared.words.ThreeFiles.TheVariants as three
 use Rattle.alloc_cli.specs.declared.words.TwoFiles.{TwoFiles}
 use Rattle.alloc_cli.specs.declared.words.TwoFiles.TheVariants as two
-use Rattle.alloc_draws.specs.Pick.{PickAnswers}
-use Rattle.alloc_outcomes.specs.Answers.{Answer, Then, on_one, on_two}
+use Rattle.alloc_audits.specs.Audit.{audit_meaning}
+use Rattle.alloc_audits.specs.AuditMatrix.{audit_matrix_meaning}
+use Rattle.alloc_draws.specs.Draw.{draw_meaning}
+use Rattle.alloc_draws.specs.Pick.{pick_meaning}
+use Rattle.alloc_outcomes.specs.Answers.{Answer, Then, on_one, on_three, on_two}
 use Rattle.alloc_outcomes.specs.Causes.{IsRefusal}
 use Rattle.alloc_outcomes.specs.Limits.{file_limit}
+use Rattle.alloc_outcomes.specs.Meanings.{OneMeaning, ThreeMeaning, TwoMeaning, said_on_one, said_on_three, said_on_two}
+use Rattle.alloc_outcomes.specs.Sentences.{Run}
 use Rattle.alloc_outcomes.specs.declared.cause.Cause.{Cause}
 use Rattle.alloc_outcomes.specs.declared.cause.Cause.TheVariants as causes
-use Rattle.alloc_steps.specs.Decompose.{DecomposeAnswers}
-use Rattle.alloc_tables.specs.Sets.{SetsAnswers}
-use Rattle.alloc_tables.specs.Table.{TableAnswers}
+use Rattle.alloc_steps.specs.Decompose.{decompose_meaning}
+use Rattle.alloc_steps.specs.Solve.{solve_meaning}
+use Rattle.alloc_tables.specs.Sets.{sets_meaning}
+use Rattle.alloc_tables.specs.Table.{table_meaning}
 
--- what a command on one file answers
-abbrev pub answers_of_one : OneFile → List ℕ → Answer → Type 0
-answers_of_one (one.Pick ticket) = PickAnswers ticket
+-- what a command on one file means: a line for each
+abbrev pub meaning_of_one : OneFile → OneMeaning
+meaning_of_one (one.Pick ticket) = pick_meaning ticket
+meaning_of_one (one.Draw seed) = draw_meaning seed
 
--- what a command on two files answers
-abbrev pub answers_of_two : TwoFiles → List ℕ → List ℕ → Answer → Type 0
-answers_of_two two.Sets = SetsAnswers
-answers_of_two two.Table = TableAnswers
-answers_of_two two.Decompose = DecomposeAnswers
+-- what a command on two files means: a line for each
+abbrev pub meaning_of_two : TwoFiles → TwoMeaning
+meaning_of_two two.Sets = sets_meaning
+meaning_of_two two.Table = table_meaning
+meaning_of_two two.Decompose = decompose_meaning
+meaning_of_two two.Solve = solve_meaning
+
+-- what a command on three files means: a line for each
+abbrev pub meaning_of_three : ThreeFiles → ThreeMeaning
+meaning_of_three three.Audit = audit_meaning
+meaning_of_three three.AuditMatrix = audit_matrix_meaning
 
 -- what a command answers once its files are short enough
 abbrev pub Answers : Command → List (List ℕ) → Answer → Type 0
-Answers (commands.One command) = on_one (answers_of_one command)
-Answers (commands.Two command) = on_two (answers_of_two command)
+Answers (commands.One command) = on_one (meaning_of_one command).answers
+Answers (commands.Two command) = on_two (meaning_of_two command).answers
+Answers (commands.Three command) = on_three (meaning_of_three command).answers
+
+-- what is said of a run of a command, over what its files hold
+abbrev pub Says : Command → List (List ℕ) → Run → Type 0
+Says (commands.One command) = said_on_one (meaning_of_one command).says
+Says (commands.Two command) = said_on_two (meaning_of_two command).says
+Says (commands.Three command) = said_on_three (meaning_of_three command).says
 
 -- the first file of more bytes than a file may have, counted from this number on
 abbrev pub too_long_from : ℕ → List (List ℕ) → Option ℕ

@@ -3,10 +3,13 @@ use Rattle.std.specs.Prelude.{ℕ, List, [], ◌∷◌, if◌then◌else◌, Opt
 use Rattle.std.specs.Option.{option_map, option_or}
 use Rattle.std.specs.Str.{bytes_eq}
 use Rattle.definitions.specs.Texts.{count_of}
+use Rattle.alloc_cli.specs.Seed.{seed_of}
 use Rattle.alloc_cli.specs.declared.words.Command.{Command}
 use Rattle.alloc_cli.specs.declared.words.Command.TheVariants as commands
 use Rattle.alloc_cli.specs.declared.words.OneFile.{OneFile}
 use Rattle.alloc_cli.specs.declared.words.OneFile.TheVariants as one
+use Rattle.alloc_cli.specs.declared.words.ThreeFiles.{ThreeFiles}
+use Rattle.alloc_cli.specs.declared.words.ThreeFiles.TheVariants as three
 use Rattle.alloc_cli.specs.declared.words.TwoFiles.{TwoFiles}
 use Rattle.alloc_cli.specs.declared.words.TwoFiles.TheVariants as two
 
@@ -14,6 +17,7 @@ use Rattle.alloc_cli.specs.declared.words.TwoFiles.TheVariants as two
 abbrev pub one_of : (name word : List ℕ) → Option OneFile
 one_of name word =
     if bytes_eq name (codes "pick") then option_map (λ ticket. one.Pick ticket) (count_of word)
+    else if bytes_eq name (codes "draw") then option_map (λ seed. one.Draw seed) (seed_of word)
     else None
 
 -- the command on two files of this name
@@ -22,6 +26,14 @@ two_of name =
     if bytes_eq name (codes "sets") then Some two.Sets
     else if bytes_eq name (codes "table") then Some two.Table
     else if bytes_eq name (codes "decompose") then Some two.Decompose
+    else if bytes_eq name (codes "solve") then Some two.Solve
+    else None
+
+-- the command on three files of this name
+abbrev pub three_of : (name : List ℕ) → Option ThreeFiles
+three_of name =
+    if bytes_eq name (codes "audit") then Some three.Audit
+    else if bytes_eq name (codes "audit-matrix") then Some three.AuditMatrix
     else None
 
 -- the command of this name and two more words
@@ -30,12 +42,18 @@ form_of_two name second =
     option_or (option_map (λ c. commands.Two c) (two_of name))
     (option_map (λ c. commands.One c) (one_of name second))
 
+-- the command of this name and three more words
+abbrev pub form_of_three : (name : List ℕ) → Option Command
+form_of_three name = option_map (λ c. commands.Three c) (three_of name)
+
 -- the command that the words are a form of
 abbrev pub command_of : List (List ℕ) → Option Command
 command_of (name ∷ first ∷ second ∷ []) = form_of_two name second
+command_of (name ∷ first ∷ second ∷ third ∷ []) = form_of_three name
 command_of _ = None
 
 -- how many files it loads: the words after its name
 abbrev pub file_count : Command → ℕ
 file_count (commands.One _) = 1
 file_count (commands.Two _) = 2
+file_count (commands.Three _) = 3

@@ -1,17 +1,18 @@
 // A command with its files: they are loaded, measured and handed to the command's step.
 ghost use Rattle.std.specs.Prelude.{◌≡◌, ◌+◌, ◌≤◌, ◌<◌, map, length, string_bytes, All};
 ghost use Rattle.alloc_cli.specs.Load.{bytes_of, LoadsCount};
-ghost use Rattle.alloc_cli.specs.Outcomes.{answers_of_one, answers_of_two, Answers, Measures, Outcome};
+ghost use Rattle.alloc_cli.specs.Outcomes.{meaning_of_one, meaning_of_three, meaning_of_two, Answers, Measures, Outcome};
 ghost use Rattle.alloc_cli.specs.Top.{Answered};
 ghost use Rattle.alloc_cli.specs.Words.{file_count};
 ghost use Rattle.alloc_outcomes.specs.Limits.{file_limit};
 ghost use Rattle.alloc_outcomes.specs.Steps.{OutCounts, ShortCounts, Steps};
 
 use crate::load::{FILE_LIMIT, load_all};
-use crate::words::{Command, OneFile, TwoFiles};
-use alloc_draws::pick;
+use crate::words::{Command, OneFile, ThreeFiles, TwoFiles};
+use alloc_audits::{audit, audit_matrix};
+use alloc_draws::{draw, pick};
 use alloc_outcomes::Cause;
-use alloc_steps::decompose;
+use alloc_steps::{decompose, solve};
 use alloc_tables::{sets, table};
 use device_core::{Files, Sink};
 use std::alloc::Global;
@@ -36,10 +37,11 @@ fn step_one<K: Sink>(
     first: &[u8],
     out: &mut K,
 ) -> Result<(), Cause>
-    ensures { Steps K.Sink (answers_of_one command first.now) out.old out.new result }
+    ensures { Steps K.Sink ((meaning_of_one command).answers first.now) out.old out.new result }
 {
     match command {
         OneFile::Pick { ticket } => pick::step(alloc, first, ticket, out),
+        OneFile::Draw { seed } => draw::step(alloc, first, seed, out),
     }
 }
 
@@ -52,12 +54,33 @@ fn step_two<K: Sink>(
     out: &mut K,
 ) -> Result<(), Cause>
     requires { length second.now ≤ file_limit }
-    ensures { Steps K.Sink (answers_of_two command first.now second.now) out.old out.new result }
+    ensures { Steps K.Sink ((meaning_of_two command).answers first.now second.now)
+        out.old out.new result }
 {
     match command {
         TwoFiles::Sets => sets::step(alloc, first, second, out),
         TwoFiles::Table => table::step(alloc, first, second, out),
         TwoFiles::Decompose => decompose::step(alloc, first, second, out),
+        TwoFiles::Solve => solve::step(alloc, first, second, out),
+    }
+}
+
+// The step of a command on three files: one arm for each.
+fn step_three<K: Sink>(
+    alloc: Global,
+    command: ThreeFiles,
+    first: &[u8],
+    second: &[u8],
+    third: &[u8],
+    out: &mut K,
+) -> Result<(), Cause>
+    requires { length second.now ≤ file_limit }
+    ensures { Steps K.Sink ((meaning_of_three command).answers first.now second.now third.now)
+        out.old out.new result }
+{
+    match command {
+        ThreeFiles::Audit => audit::step(alloc, first, second, third, out),
+        ThreeFiles::AuditMatrix => audit_matrix::step(alloc, first, second, third, out),
     }
 }
 
@@ -75,6 +98,7 @@ fn step<K: Sink>(
     match command {
         Command::One(one) => step_one(alloc, one, &given[0], out),
         Command::Two(two) => step_two(alloc, two, &given[0], &given[1], out),
+        Command::Three(three) => { step_three(alloc, three, &given[0], &given[1], &given[2], out) }
     }
 }
 

@@ -20,6 +20,7 @@ mod finish;
 mod lines;
 mod load;
 mod parts;
+mod seed;
 mod top;
 mod words;
 

@@ -1,7 +1,8 @@
 // The forms of the words.
 ghost use Rattle.std.specs.Prelude.{◌≡◌, ◌+◌, ◌≤◌, map, string_bytes, length, IfSome};
-ghost use Rattle.alloc_cli.specs.Words.{command_of, file_count, form_of_two, one_of, two_of};
+ghost use Rattle.alloc_cli.specs.Words.{command_of, file_count, form_of_three, form_of_two, one_of, three_of, two_of};
 
+use crate::seed::read_seed;
 use table_text::read_count;
 
 /// A command on one file.
@@ -9,6 +10,8 @@ use table_text::read_count;
 pub enum OneFile {
     /// `pick LOTTERY TICKET`
     Pick { ticket: u128 },
+    /// `draw LOTTERY SEED`
+    Draw { seed: [u8; 32] },
 }
 
 /// A command on two files.
@@ -20,6 +23,17 @@ pub enum TwoFiles {
     Table,
     /// `decompose MATRIX QUOTAS`
     Decompose,
+    /// `solve PREFS QUOTAS`
+    Solve,
+}
+
+/// A command on three files.
+#[derive(Clone, Copy, Debug, PartialEq, Eq)]
+pub enum ThreeFiles {
+    /// `audit PREFS QUOTAS LOTTERY`
+    Audit,
+    /// `audit-matrix MATRIX QUOTAS LOTTERY`
+    AuditMatrix,
 }
 
 /// What the words ask for. The files of a command are the words after its name, in order.
@@ -27,6 +41,7 @@ pub enum TwoFiles {
 pub enum Command {
     One(OneFile),
     Two(TwoFiles),
+    Three(ThreeFiles),
 }
 
 impl Command {
@@ -37,6 +52,7 @@ impl Command {
         match self {
             Command::One(_) => 1,
             Command::Two(_) => 2,
+            Command::Three(_) => 3,
         }
     }
 }
@@ -50,6 +66,10 @@ fn parse_one(name: &str, word: &str) -> Option<OneFile>
             let ticket = read_count(word.as_bytes())?;
             Some(OneFile::Pick { ticket })
         }
+        "draw" => {
+            let seed = read_seed(word)?;
+            Some(OneFile::Draw { seed })
+        }
         _ => None,
     }
 }
@@ -62,6 +82,18 @@ fn parse_two(name: &str) -> Option<TwoFiles>
         "sets" => Some(TwoFiles::Sets),
         "table" => Some(TwoFiles::Table),
         "decompose" => Some(TwoFiles::Decompose),
+        "solve" => Some(TwoFiles::Solve),
+        _ => None,
+    }
+}
+
+// The command on three files of this name.
+fn parse_three(name: &str) -> Option<ThreeFiles>
+    ensures { result ≡ three_of name.now }
+{
+    match name {
+        "audit" => Some(ThreeFiles::Audit),
+        "audit-matrix" => Some(ThreeFiles::AuditMatrix),
         _ => None,
     }
 }
@@ -76,6 +108,13 @@ fn parse_with_two(name: &str, second: &str) -> Option<Command>
     }
 }
 
+// The command of this name and three more words.
+fn parse_with_three(name: &str) -> Option<Command>
+    ensures { result ≡ form_of_three name.now }
+{
+    Some(Command::Three(parse_three(name)?))
+}
+
 /// The command that the words are a form of.
 pub fn parse(words: &[String]) -> Option<Command>
     ensures form { result ≡ command_of (map string_bytes words.now) }
@@ -83,6 +122,7 @@ pub fn parse(words: &[String]) -> Option<Command>
 {
     match words {
         [name, _, second] => parse_with_two(name.as_str(), second.as_str()),
+        [name, _, _, _] => parse_with_three(name.as_str()),
         _ => None,
     }
 }

@@ -1,0 +1,17 @@
+use Rattle.std.proofs.Common.{◌∙◌, ap, string_bytes}
+use Rattle.alloc_cli.specs.Words.{form_of_two, form_of_three}
+use Rattle.alloc_cli.proofs.WordsLemmas.{form_of_four_words, form_of_three_words}
+use Rattle.alloc_cli.proofs.words.parse.Goals as goal
+
+pub returns-in-len3-clause-form : goal.returns-in-len3-clause-form
+returns-in-len3-clause-form c =
+    c.parse_with_two.ensures
+    ∙ ap (λ name. form_of_two name c.as_str-in-len3.result.now) c.as_str.ensures.value
+    ∙ ap (form_of_two (string_bytes c.name-item.result)) c.as_str-in-len3.ensures.value
+    ∙ form_of_three_words string_bytes c.args.words.now c.name-item.result c.second-item.result c.in-len3.len_at_least c.in-len3.len_below c.name-item.is c.second-item.is
+
+pub returns-in-len4-clause-form : goal.returns-in-len4-clause-form
+returns-in-len4-clause-form c =
+    c.parse_with_three.ensures
+    ∙ ap form_of_three c.as_str-in-len4.ensures.value
+    ∙ form_of_four_words string_bytes c.args.words.now c.name-item-then-words-lt5.result c.in-len4.len_at_least c.in-len4.len_below c.name-item-then-words-lt5.is

@@ -1,8 +1,9 @@
 // `decompose`: given shares become a lottery.
 use crate::devices::check_failing_devices;
 use crate::runs::{check_both, run_on_both};
+use crate::texts::{count_of, has_once, has_pieces};
 use alloc_cli::Cause;
-use std::alloc::{AllocError, Global};
+use std::alloc::AllocError;
 use std::process::Abort;
 use std::test::Fail;
 
@@ -39,38 +40,6 @@ fn decomposed(
     )?;
     assert_eq!(rt; seen.cause, Cause::Done);
     Ok(seen.out)
-}
-
-// How often these bytes stand in the text.
-fn count_of(text: &[u8], part: &str) -> usize {
-    let part = part.as_bytes();
-    let mut found = 0usize;
-    for start in 0..text.len() {
-        if text[start..].starts_with(part) {
-            found = found.wrapping_add(1);
-        }
-    }
-    found
-}
-
-// Each of these parts stands once in the text.
-fn has_once(text: &[u8], parts: &[&str]) -> bool {
-    parts.iter().all(|part| count_of(text, part) == 1)
-}
-
-// The text has each of these pieces once, among so many: its weight, and its gives.
-fn has_pieces(alloc: Global, text: &[u8], count: u32, pieces: &[&str]) -> Result<bool, AllocError> {
-    for piece in pieces {
-        let mut found = 0usize;
-        for number in 1..=count {
-            let records = format!(in alloc; "\npiece,{number},{piece}")?;
-            found = found.wrapping_add(count_of(text, &records));
-        }
-        if found != 1 {
-            return Ok(false);
-        }
-    }
-    Ok(true)
 }
 
 #[test]
@@ -196,6 +165,16 @@ fn floor_above_ceiling(rt: HostRuntime) -> Result<(), Fail> {
         3,
         "input: file 2 record 1 kind 16\n",
     )?;
+    Ok(())
+}
+
+#[test]
+fn no_object_at_all(rt: HostRuntime) -> Result<(), Fail> {
+    let text = decomposed(&rt, "agent\nx\n", "")?;
+    assert_eq!(rt;
+        text.as_slice(),
+        b"lottery,1\ndenominator,1\nagents,x\nobjects\nrow,x\npiece,1,1\nend,1\n".as_slice()
+    );
     Ok(())
 }
 

@@ -6,6 +6,13 @@ use std::alloc::{AllocError, Global};
 use std::process::Abort;
 use std::test::Fail;
 
+// A lottery that is sound for the preferences and quotas below, and one that splits the matrix.
+const SOUND: &str = "lottery,1\ndenominator,1\nagents,x\nobjects,a,none\nrow,x,1,0\nprice,1,1\n\
+worth,x,a,1\nworth,x,none,0\npiece,1,1\ngive,x,a,1\nend,1\n";
+
+const SPLIT: &str = "lottery,1\ndenominator,2\nagents,x\nobjects,a\nrow,x,1\n\
+piece,1,1\ngive,x,a,1\npiece,2,1\nend,2\n";
+
 // Lawful files for every command.
 fn device_files(alloc: Global) -> Result<Vec<(String, Vec<u8>)>, AllocError> {
     let mut files = two_files(alloc, b"agent\nx,a\n", b"object,a,,1\n")?;
@@ -16,6 +23,14 @@ fn device_files(alloc: Global) -> Result<Vec<(String, Vec<u8>)>, AllocError> {
     files.push((
         String::from_str(alloc, "lottery.csv")?,
         PLAIN.as_bytes().to_vec(alloc)?,
+    ))?;
+    files.push((
+        String::from_str(alloc, "sound.csv")?,
+        SOUND.as_bytes().to_vec(alloc)?,
+    ))?;
+    files.push((
+        String::from_str(alloc, "split.csv")?,
+        SPLIT.as_bytes().to_vec(alloc)?,
     ))?;
     Ok(files)
 }

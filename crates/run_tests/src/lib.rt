@@ -3,9 +3,19 @@
 #![tactic(auto)]
 
 #[cfg(test)]
+mod audit;
+#[cfg(test)]
+mod cases;
+#[cfg(test)]
 mod decompose;
 #[cfg(test)]
 mod devices;
+#[cfg(test)]
+mod draw;
+#[cfg(test)]
+mod input_faults;
+#[cfg(test)]
+mod lottery_faults;
 #[cfg(test)]
 mod pick;
 #[cfg(test)]
@@ -13,6 +23,10 @@ mod runs;
 #[cfg(test)]
 mod sets;
 #[cfg(test)]
+mod solve;
+#[cfg(test)]
 mod table;
+#[cfg(test)]
+mod texts;
 #[cfg(test)]
 mod words;

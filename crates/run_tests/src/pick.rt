@@ -1,29 +1,13 @@
 // `pick`: the piece of a ticket.
 use crate::devices::check_failing_devices;
-use crate::runs::{PLAIN, Seen, one_file, run_on, words_of};
+use crate::runs::{PLAIN, PRICED_THREE, PRICED_TWO, Seen, one_file, run_on, words_of};
 use alloc_cli::{Cause, run};
 use device_core::{MemoryFiles, MemorySink};
 use std::alloc::{AllocError, Global};
 use std::process::Abort;
 use std::test::Fail;
 
-// A lottery with prices of two agents.
-const PRICED_TWO: &str = "lottery,1\ndenominator,2\nagents,x,y\nobjects,a,b,none\n\
-row,x,1,1,0\nrow,y,1,1,0\nprice,1,4\nprice,2,0\n\
-worth,x,a,4\nworth,x,b,0\nworth,x,none,-1\nworth,y,a,4\nworth,y,b,0\nworth,y,none,-1\n\
-piece,1,1\ngive,x,a,1\ngive,y,b,1\npiece,2,1\ngive,x,b,1\ngive,y,a,1\nend,2\n";
-
-// A lottery with prices of three agents.
-const PRICED_THREE: &str = "lottery,1\ndenominator,6\nagents,x,y,z\nobjects,a,b,none\n\
-row,x,3,1,2\nrow,y,3,1,2\nrow,z,0,4,2\nprice,1,8\nprice,2,4\n\
-worth,x,a,8\nworth,x,b,4\nworth,x,none,0\nworth,y,a,8\nworth,y,b,4\nworth,y,none,0\n\
-worth,z,b,4\nworth,z,a,1\nworth,z,none,0\n\
-piece,1,1\ngive,x,a,1\ngive,y,b,1\ngive,z,none,1\n\
-piece,2,2\ngive,x,a,1\ngive,y,none,1\ngive,z,b,1\n\
-piece,3,1\ngive,x,b,1\ngive,y,a,1\ngive,z,none,1\n\
-piece,4,2\ngive,x,none,1\ngive,y,a,1\ngive,z,b,1\nend,4\n";
-
-// The same over devices in memory of which any call could fail, and none does.
+// A run over devices in memory of which any call could fail, and none does.
 fn run_in_memory(alloc: Global, words: &[&str], bytes: &[u8]) -> Result<Seen, AllocError> {
     let words = words_of(alloc, words)?;
     let mut files = MemoryFiles::new(one_file(alloc, bytes)?, Vec::new(alloc));

@@ -9,6 +9,22 @@ pub(crate) const PLAIN: &str =
     "lottery,1\ndenominator,2\nagents,x,y\nobjects,a,b\nrow,x,1,1\nrow,y,1,1\n\
 piece,1,1\ngive,x,a,1\ngive,y,b,1\npiece,2,1\ngive,x,b,1\ngive,y,a,1\nend,2\n";
 
+// A lottery with prices of two agents.
+pub(crate) const PRICED_TWO: &str = "lottery,1\ndenominator,2\nagents,x,y\nobjects,a,b,none\n\
+row,x,1,1,0\nrow,y,1,1,0\nprice,1,4\nprice,2,0\n\
+worth,x,a,4\nworth,x,b,0\nworth,x,none,-1\nworth,y,a,4\nworth,y,b,0\nworth,y,none,-1\n\
+piece,1,1\ngive,x,a,1\ngive,y,b,1\npiece,2,1\ngive,x,b,1\ngive,y,a,1\nend,2\n";
+
+// A lottery with prices of three agents.
+pub(crate) const PRICED_THREE: &str = "lottery,1\ndenominator,6\nagents,x,y,z\nobjects,a,b,none\n\
+row,x,3,1,2\nrow,y,3,1,2\nrow,z,0,4,2\nprice,1,8\nprice,2,4\n\
+worth,x,a,8\nworth,x,b,4\nworth,x,none,0\nworth,y,a,8\nworth,y,b,4\nworth,y,none,0\n\
+worth,z,b,4\nworth,z,a,1\nworth,z,none,0\n\
+piece,1,1\ngive,x,a,1\ngive,y,b,1\ngive,z,none,1\n\
+piece,2,2\ngive,x,a,1\ngive,y,none,1\ngive,z,b,1\n\
+piece,3,1\ngive,x,b,1\ngive,y,a,1\ngive,z,none,1\n\
+piece,4,2\ngive,x,none,1\ngive,y,a,1\ngive,z,b,1\nend,4\n";
+
 // How a run over sure devices ended, and what it wrote.
 #[derive(Drop)]
 pub(crate) struct Seen {
@@ -52,12 +68,35 @@ pub(crate) fn two_files(
     Ok(files)
 }
 
+// Two files and a lottery, of the names that every test uses.
+pub(crate) fn three_files(
+    alloc: Global,
+    prefs: &[u8],
+    quotas: &[u8],
+    lottery: &[u8],
+) -> Result<Vec<(String, Vec<u8>)>, AllocError> {
+    let mut files = two_files(alloc, prefs, quotas)?;
+    files.push((
+        String::from_str(alloc, "lottery.csv")?,
+        lottery.to_vec(alloc)?,
+    ))?;
+    Ok(files)
+}
+
 // A run of these words over one file.
 pub(crate) fn run_on(alloc: Global, words: &[&str], bytes: &[u8]) -> Result<Seen, AllocError> {
+    run_over(alloc, words, one_file(alloc, bytes)?)
+}
+
+// A run of these words over these files.
+fn run_over(
+    alloc: Global,
+    words: &[&str],
+    files: Vec<(String, Vec<u8>)>,
+) -> Result<Seen, AllocError> {
     let words = words_of(alloc, words)?;
-    let mut files = SureFiles::new(one_file(alloc, bytes)?);
-    let mut out = SureSink::new(alloc);
-    let mut err = SureSink::new(alloc);
+    let mut files = SureFiles::new(files);
+    let (mut out, mut err) = (SureSink::new(alloc), SureSink::new(alloc));
     let ended = run(alloc, &words, &mut files, &mut out, &mut err);
     Ok(Seen {
         status: ended.status,
@@ -67,6 +106,19 @@ pub(crate) fn run_on(alloc: Global, words: &[&str], bytes: &[u8]) -> Result<Seen
     })
 }
 
+// A run of this command over three files.
+pub(crate) fn run_on_three(
+    alloc: Global,
+    command: &str,
+    prefs: &[u8],
+    quotas: &[u8],
+    lottery: &[u8],
+) -> Result<Seen, AllocError> {
+    let words = [command, "prefs.csv", "quotas.csv", "lottery.csv"];
+    let files = three_files(alloc, prefs, quotas, lottery)?;
+    run_over(alloc, &words, files)
+}
+
 // A run of this command over these files.
 pub(crate) fn run_on_both(
     alloc: Global,
@@ -74,16 +126,8 @@ pub(crate) fn run_on_both(
     prefs: &[u8],
     quotas: &[u8],
 ) -> Result<Seen, AllocError> {
-    let words = words_of(alloc, &[command, "prefs.csv", "quotas.csv"])?;
-    let mut files = SureFiles::new(two_files(alloc, prefs, quotas)?);
-    let (mut out, mut err) = (SureSink::new(alloc), SureSink::new(alloc));
-    let ended = run(alloc, &words, &mut files, &mut out, &mut err);
-    Ok(Seen {
-        status: ended.status,
-        cause: ended.cause,
-        out: out.bytes().to_vec(alloc)?,
-        err: err.bytes().to_vec(alloc)?,
-    })
+    let files = two_files(alloc, prefs, quotas)?;
+    run_over(alloc, &[command, "prefs.csv", "quotas.csv"], files)
 }
 
 // This command on these files ends with this status, and writes this to each sink.

@@ -1,27 +1,26 @@
 // `table`: what is eaten in a problem.
+use crate::cases::{
+    Case, ENVY_BETWEEN_DEMANDS_OF_TWO, EQUAL_AND_EMPTY_SETS, FULL_AT_THE_END,
+    MOMENT_ZERO_IS_RANKED, SET_FULL_BEFORE_ITS_COLUMN, TIED_MOMENT, UNEATEN_PLACE, chain_of,
+};
 use crate::devices::check_failing_devices;
 use crate::runs::{check_both, run_on_both};
+use crate::texts::has_record;
 use alloc_cli::Cause;
-use std::alloc::{AllocError, Global};
+use std::alloc::AllocError;
 use std::process::Abort;
 use std::test::Fail;
 
 // `table` on these files writes this.
-fn check_table(
-    rt: &(impl Abort + AllocGlobal),
-    prefs: &str,
-    quotas: &str,
-    out: &str,
-) -> Result<(), AllocError> {
-    check_both(rt, "table", prefs.as_bytes(), quotas.as_bytes(), 0, out, "")
+fn check_table(rt: &(impl Abort + AllocGlobal), case: &Case, out: &str) -> Result<(), AllocError> {
+    check_both(rt, "table", case.prefs, case.quotas, 0, out, "")
 }
 
 #[test]
 fn full_at_the_end(rt: HostRuntime) -> Result<(), Fail> {
     check_table(
         &rt,
-        "agent,first,second\nx,a,b\ny,a,b\n",
-        "object,a,,1\nobject,b,,1\n",
+        &FULL_AT_THE_END,
         "table,1\ndenominator,2\nobjects,a,b,none\nmoment,1,1\nmoment,2,2\nrow,x,1,1,0\nrow,y,1,1,0\nend,2\n",
     )?;
     Ok(())
@@ -31,8 +30,7 @@ fn full_at_the_end(rt: HostRuntime) -> Result<(), Fail> {
 fn uneaten_place(rt: HostRuntime) -> Result<(), Fail> {
     check_table(
         &rt,
-        "agent\nx,a,b\ny,a,b\nz,b,a\n",
-        "object,a,,1\nobject,b,,1\n",
+        &UNEATEN_PLACE,
         "table,1\ndenominator,6\nobjects,a,b,none\nmoment,1,3\nmoment,2,4\n\
 row,x,3,1,2\nrow,y,3,1,2\nrow,z,0,4,2\nend,3\n",
     )?;
@@ -43,8 +41,7 @@ row,x,3,1,2\nrow,y,3,1,2\nrow,z,0,4,2\nend,3\n",
 fn tied_moment(rt: HostRuntime) -> Result<(), Fail> {
     check_table(
         &rt,
-        "agent\n1,a,b,c,d\n2,a,b,c,d\n3,b,a,d,c\n4,b,a,d,c\n",
-        "object,a,,1\nobject,b,,1\nobject,c,,1\nobject,d,,1\n",
+        &TIED_MOMENT,
         "table,1\ndenominator,2\nobjects,a,b,c,d,none\nmoment,1,1\nmoment,2,1\nmoment,3,2\nmoment,4,2\n\
 row,1,1,0,1,0,0\nrow,2,1,0,1,0,0\nrow,3,0,1,0,1,0\nrow,4,0,1,0,1,0\nend,4\n",
     )?;
@@ -55,8 +52,7 @@ row,1,1,0,1,0,0\nrow,2,1,0,1,0,0\nrow,3,0,1,0,1,0\nrow,4,0,1,0,1,0\nend,4\n",
 fn set_full_before_its_column(rt: HostRuntime) -> Result<(), Fail> {
     check_table(
         &rt,
-        "agent\nx,a,b\ny,a,b\nz,a\n",
-        "object,a,,2\nobject,b,,1\ngroup,XY,x,y\nset,G,2,,1\nin,G,XY,a\n",
+        &SET_FULL_BEFORE_ITS_COLUMN,
         "table,1\ndenominator,2\nobjects,a,b,none\nmoment,1,2\nmoment,2,2\nmoment,3,1\n\
 row,x,1,1,0\nrow,y,1,1,0\nrow,z,2,0,0\nend,3\n",
     )?;
@@ -67,8 +63,7 @@ row,x,1,1,0\nrow,y,1,1,0\nrow,z,2,0,0\nend,3\n",
 fn moment_zero_is_ranked(rt: HostRuntime) -> Result<(), Fail> {
     check_table(
         &rt,
-        "agent,first,second\nx,a,b\ny,a,b\n",
-        "object,a,,0\nobject,b,,1\n",
+        &MOMENT_ZERO_IS_RANKED,
         "table,1\ndenominator,2\nobjects,a,b,none\nmoment,1,0\nmoment,2,1\nrow,x,0,1,1\nrow,y,0,1,1\nend,2\n",
     )?;
     Ok(())
@@ -78,9 +73,7 @@ fn moment_zero_is_ranked(rt: HostRuntime) -> Result<(), Fail> {
 fn equal_and_empty_sets(rt: HostRuntime) -> Result<(), Fail> {
     check_table(
         &rt,
-        "agent\nx,a,b\ny,a,b\nz,a\n",
-        "object,a,,2\nobject,b,,1\ngroup,XY,x,y\nset,G,2,,1\nin,G,XY,a\n\
-set,H,2,,2\nin,H,XY,a\nset,E,2,,0\n",
+        &EQUAL_AND_EMPTY_SETS,
         "table,1\ndenominator,2\nobjects,a,b,none\nmoment,1,2\nmoment,2,2\nmoment,3,1\nmoment,4,2\nmoment,5,0\n\
 row,x,1,1,0\nrow,y,1,1,0\nrow,z,2,0,0\nend,3\n",
     )?;
@@ -91,38 +84,11 @@ row,x,1,1,0\nrow,y,1,1,0\nrow,z,2,0,0\nend,3\n",
 fn envy_between_demands_of_two(rt: HostRuntime) -> Result<(), Fail> {
     check_table(
         &rt,
-        "agent\nu,a,b\nv,b,a\np,b\n",
-        "object,a,,2\nobject,b,,2\nagent,u,2,2\nagent,v,2,2\n",
+        &ENVY_BETWEEN_DEMANDS_OF_TWO,
         "table,1\ndenominator,6\nobjects,a,b,none\nmoment,1,6\nmoment,2,4\n\
 row,u,6,2,4\nrow,v,6,6,0\nrow,p,0,4,2\nend,3\n",
     )?;
     Ok(())
-}
-
-// So many objects of one place; two agents list them all, and each object has one agent more who
-// lists it alone.
-fn chain_of(alloc: Global, objects: u32) -> Result<(Vec<u8>, Vec<u8>), AllocError> {
-    let mut list = Vec::new(alloc);
-    let mut alone = Vec::new(alloc);
-    let mut quotas = Vec::new(alloc);
-    for number in 1..=objects {
-        list.extend_from_slice(format!(in alloc; ",o{number}")?.as_bytes())?;
-        alone.extend_from_slice(format!(in alloc; "z{number},o{number}\n")?.as_bytes())?;
-        quotas.extend_from_slice(format!(in alloc; "object,o{number},,1\n")?.as_bytes())?;
-    }
-    let mut prefs = b"agent\nx".to_vec(alloc)?;
-    prefs.extend_from_slice(&list)?;
-    prefs.extend_from_slice(b"\ny")?;
-    prefs.extend_from_slice(&list)?;
-    prefs.extend_from_slice(b"\n")?;
-    prefs.extend_from_slice(&alone)?;
-    Ok((prefs, quotas))
-}
-
-// The text has this record.
-fn has_record(text: &[u8], record: &str) -> bool {
-    text.split(|byte| *byte == b'\n')
-        .any(|line| line == record.as_bytes())
 }
 
 #[test]

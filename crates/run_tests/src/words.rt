@@ -15,8 +15,9 @@ fn cause_without_files(alloc: Global, words: &[&str]) -> Result<Cause, AllocErro
 
 #[test]
 fn usage_words(rt: HostRuntime) -> Result<(), Fail> {
-    let forms: [&[&str]; 14] = [
+    let forms: [&[&str]; 17] = [
         &["decompose", "matrix.csv"],
+        &["solve", "prefs.csv"],
         &["table", "prefs.csv"],
         &["Table", "prefs.csv", "quotas.csv"],
         &["sets"],
@@ -29,6 +30,8 @@ fn usage_words(rt: HostRuntime) -> Result<(), Fail> {
         &["pick", "lottery.csv", ""],
         &["pick", "lottery.csv", "1", "1"],
         &["Pick", "lottery.csv", "1"],
+        &["draw", "lottery.csv"],
+        &["draw", "lottery.csv", "1"],
         &["--help"],
     ];
     for words in forms {

@@ -1,0 +1,130 @@
+// `draw`: the piece of the ticket that a seed names.
+use crate::devices::check_failing_devices;
+use crate::runs::{PRICED_THREE, PRICED_TWO, run_on};
+use std::alloc::AllocError;
+use std::process::Abort;
+use std::test::Fail;
+
+// The digits of a seed of zeros.
+const ZEROS: &str = "0000000000000000000000000000000000000000000000000000000000000000";
+
+// A lottery of one agent and one ticket.
+const ONE_TICKET: &str = "lottery,1\ndenominator,1\nagents,x\nobjects,none\nrow,x,1\n\
+worth,x,none,0\npiece,1,1\ngive,x,none,1\nend,1\n";
+
+// What is written of the last ticket of the lottery of three agents.
+const LAST_OF_SIX: &str = "ticket,5,6\npiece,4,2\ngive,x,none,1\ngive,y,a,1\ngive,z,b,1\nend,3\n";
+
+// `draw` by a seed ends with this status, and writes this to each sink.
+fn check_draw(
+    rt: &(impl Abort + AllocGlobal),
+    text: &str,
+    seed: &str,
+    status: u8,
+    out: &str,
+    err: &str,
+) -> Result<(), AllocError> {
+    let words = ["draw", "lottery.csv", seed];
+    let seen = run_on(rt.alloc(), &words, text.as_bytes())?;
+    assert_eq!(rt; seen.status, status, "status of seed {seed}");
+    assert_eq!(rt; seen.out.as_slice(), out.as_bytes(), "out of seed {seed}");
+    assert_eq!(rt; seen.err.as_slice(), err.as_bytes(), "err of seed {seed}");
+    Ok(())
+}
+
+#[test]
+fn draw_over_one(rt: HostRuntime) -> Result<(), Fail> {
+    let only = "ticket,0,1\npiece,1,1\ngive,x,none,1\nend,1\n";
+    for seed in [
+        ZEROS,
+        "000102030405060708090a0b0c0d0e0f101112131415161718191a1b1c1d1e1f",
+        "ffffffffffffffffffffffffffffffffffffffffffffffffffffffffffffffff",
+    ] {
+        check_draw(&rt, ONE_TICKET, seed, 0, only, "")?;
+    }
+    Ok(())
+}
+
+// Of six tickets the first candidate of the seed of zeros is 6, and the second is 5.
+#[test]
+fn rejected_candidate(rt: HostRuntime) -> Result<(), Fail> {
+    check_draw(&rt, PRICED_THREE, ZEROS, 0, LAST_OF_SIX, "")?;
+    let first = "ticket,0,2\npiece,1,1\ngive,x,a,1\ngive,y,b,1\nend,2\n";
+    check_draw(&rt, PRICED_TWO, ZEROS, 0, first, "")?;
+    Ok(())
+}
+
+// A seed for each ticket of six, and one of which two candidates are passed over.
+#[test]
+fn boundary_of_tickets(rt: HostRuntime) -> Result<(), Fail> {
+    for (seed, drawn) in [
+        (
+            "0000000000000000000000000000000000000000000000000000000000000013",
+            "ticket,0,6\npiece,1,1\ngive,x,a,1\ngive,y,b,1\ngive,z,none,1\nend,3\n",
+        ),
+        (
+            "0000000000000000000000000000000000000000000000000000000000000008",
+            "ticket,1,6\npiece,2,2\ngive,x,a,1\ngive,y,none,1\ngive,z,b,1\nend,3\n",
+        ),
+        (
+            "0000000000000000000000000000000000000000000000000000000000000014",
+            "ticket,2,6\npiece,2,2\ngive,x,a,1\ngive,y,none,1\ngive,z,b,1\nend,3\n",
+        ),
+        (
+            "0000000000000000000000000000000000000000000000000000000000000005",
+            "ticket,3,6\npiece,3,1\ngive,x,b,1\ngive,y,a,1\ngive,z,none,1\nend,3\n",
+        ),
+        (
+            "000000000000000000000000000000000000000000000000000000000000000b",
+            "ticket,4,6\npiece,4,2\ngive,x,none,1\ngive,y,a,1\ngive,z,b,1\nend,3\n",
+        ),
+        (
+            "0000000000000000000000000000000000000000000000000000000000000001",
+            LAST_OF_SIX,
+        ),
+        (
+            "000000000000000000000000000000000000000000000000000000000000000e",
+            "ticket,0,6\npiece,1,1\ngive,x,a,1\ngive,y,b,1\ngive,z,none,1\nend,3\n",
+        ),
+    ] {
+        check_draw(&rt, PRICED_THREE, seed, 0, drawn, "")?;
+    }
+    Ok(())
+}
+
+// A seed is 64 hex digits of either case.
+#[test]
+fn digits_of_seeds(rt: HostRuntime) -> Result<(), Fail> {
+    let drawn = "ticket,0,6\npiece,1,1\ngive,x,a,1\ngive,y,b,1\ngive,z,none,1\nend,3\n";
+    for seed in [
+        "abababababababababababababababababababababababababababababababab",
+        "ABABABABABABABABABABABABABABABABABABABABABABABABABABABABABABABAB",
+        "aBABabAbABABABABABABABABABABABABABABABABABABABABABABABABABABABab",
+    ] {
+        check_draw(&rt, PRICED_THREE, seed, 0, drawn, "")?;
+    }
+    for seed in [
+        "",
+        "0",
+        "000000000000000000000000000000000000000000000000000000000000000",
+        "00000000000000000000000000000000000000000000000000000000000000000",
+        "000000000000000000000000000000000000000000000000000000000000000g",
+        "G000000000000000000000000000000000000000000000000000000000000000",
+        " 000000000000000000000000000000000000000000000000000000000000000",
+    ] {
+        check_draw(&rt, PRICED_THREE, seed, 2, "", "usage\n")?;
+    }
+    Ok(())
+}
+
+#[test]
+fn unlawful_lottery(rt: HostRuntime) -> Result<(), Fail> {
+    check_draw(&rt, "", ZEROS, 3, "", "lottery: record 1 kind 7\n")?;
+    Ok(())
+}
+
+#[test]
+fn failing_devices(rt: HostRuntime) -> Result<(), Fail> {
+    check_failing_devices(&rt, &["draw", "lottery.csv", ZEROS], 1)?;
+    Ok(())
+}

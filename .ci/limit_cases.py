@@ -2,11 +2,13 @@
 """The runs at the limits of the inputs.
 
 limit_cases.py write: writes the inputs into the current folder, and beside them what a run must write.
-    lists.csv, quotas.csv    1,000 agents, 200 objects, and 400 sets with 300,000 cells; sets.csv and table.csv are due
+    lists.csv, quotas.csv    1,000 agents, 200 objects, and 400 sets with 300,000 cells; sets.csv and table.csv are due, and of
+        their lottery head.csv, which is all before the first piece
     shares.csv, rows.csv     a matrix of 1,000 by 200 shares, and 1,000 sets with 420,000 cells for it
     lottery.csv              a lottery of 67,108,864 bytes; first.csv and last.csv are due for its first and last ticket
 limit_cases.py check: reads a lottery for shares.csv and rows.csv from standard input, and ends with 0 where its pieces add up to
     its rows and each of them keeps every quota; else it says what is wrong and ends with 1.
+limit_cases.py solved: the same of a lottery for lists.csv and quotas.csv.
 """
 
 import sys
@@ -15,6 +17,8 @@ from collections import Counter
 AGENTS = 1000
 OBJECTS = 200
 CHANCES = 20
+# What the recipe of prices calls so: two more than there are objects, since `none` is on the lists too.
+WIDTH = OBJECTS + 2
 ROWS_STATED = AGENTS - 2 * OBJECTS
 FILE_LIMIT = 67108864
 
@@ -79,12 +83,38 @@ def eaten(agent):
     return units
 
 
+def named_rows():
+    return [f"row,p{agent},{','.join(map(str, eaten(agent)))}" for agent in agents()]
+
+
 def write_table():
     wholes = [f"moment,{column},{5 if column % 2 else 3}" for column in columns()]
     odds = [f"moment,{OBJECTS + column},{2 if column % 2 else 5}" for column in columns()]
-    rows = [f"row,p{agent},{','.join(map(str, eaten(agent)))}" for agent in agents()]
     head = ["table,1", "denominator,5", f"objects,{numbered('s', columns())},none"]
-    write("table.csv", [*head, *wholes, *odds, *rows, f"end,{AGENTS}"])
+    write("table.csv", [*head, *wholes, *odds, *named_rows(), f"end,{AGENTS}"])
+
+
+def prices():
+    """The moments 2/5 and 3/5 have the numbers 1 and 2. So the rank of an odd object is 3, and that of its agents of odd number 1;
+    the rank of an even object is 2, and that of its agents of odd number is 2 too."""
+    wholes = [0 if column % 2 else WIDTH for column in columns()]
+    odds = [2 * WIDTH if column % 2 else 0 for column in columns()]
+    return [*wholes, *odds]
+
+
+def worths(agent):
+    """Along the list. An agent of odd number has two objects and `none`, and one of even number two objects alone."""
+    if agent % 2:
+        return [2 * WIDTH, WIDTH, *range(OBJECTS - 2, -1, -1)]
+    return [WIDTH, 0, *range(-1, -OBJECTS, -1)]
+
+
+def write_head():
+    head = ["lottery,1", "denominator,5", f"agents,{numbered('p', agents())}", f"objects,{numbered('s', columns())},none"]
+    priced = [f"price,{number},{price}" for number, price in enumerate(prices(), 1)]
+    places = {agent: [*(f"s{column}" for column in around(first_choice(agent))), "none"] for agent in agents()}
+    valued = [f"worth,p{agent},{place},{worth}" for agent in agents() for place, worth in zip(places[agent], worths(agent), strict=True)]
+    write("head.csv", [*head, *named_rows(), *priced, *valued])
 
 
 def shares_of(agent):
@@ -153,6 +183,15 @@ def read_lottery(lines):
     return denominator, units, pieces
 
 
+def check_ceilings(number, gives):
+    """Of each object at most 4, and 2 to agents of odd number; and to each agent one place or `none`."""
+    objects = Counter(name for _, name in gives)
+    odd = Counter(name for agent, name in gives if int(agent[1:]) % 2)
+    for name in (f"s{column}" for column in columns()):
+        need(objects[name] <= 4 and odd[name] <= 2, f"piece {number} breaks a quota of {name}")
+    need([agent for agent, _ in gives] == [f"p{agent}" for agent in agents()], f"piece {number} doesn't give each agent one place")
+
+
 def check_quotas(number, gives):
     """Of each object 5, 2 or 3 of them to agents of odd number; and one to each agent whose row is stated."""
     objects = Counter(name for _, name in gives)
@@ -165,14 +204,25 @@ def check_quotas(number, gives):
 
 
 def check_lottery():
-    denominator, units, pieces = read_lottery(sys.stdin)
     due = {(f"p{agent}", f"s{column}"): share for agent in agents() for column, share in zip(columns(), shares_of(agent))}
-    need(denominator == CHANCES and units == due, "the rows aren't the shares")
+    check_pieces(CHANCES, due, check_quotas)
+
+
+def check_solved():
+    names = [*(f"s{column}" for column in columns()), "none"]
+    due = {(f"p{agent}", name): share for agent in agents() for name, share in zip(names, eaten(agent), strict=True)}
+    check_pieces(5, due, check_ceilings)
+
+
+def check_pieces(parts, due, keeps_quotas):
+    """The lottery on standard input has these units over so many parts, and its pieces add up to them."""
+    denominator, units, pieces = read_lottery(sys.stdin)
+    need(denominator == parts and units == due, "the rows aren't the shares")
     need(sum(weight for weight, _ in pieces) == denominator, "the weights don't add up")
     given = Counter()
     for number, (weight, gives) in enumerate(pieces, 1):
         need(weight >= 1 and len(set(gives)) == len(gives), f"piece {number} has no weight, or a give twice")
-        check_quotas(number, gives)
+        keeps_quotas(number, gives)
         for pair in gives:
             given[pair] += weight
     need(all(given[pair] == unit for pair, unit in units.items()), "the pieces don't add up to the rows")
@@ -184,9 +234,10 @@ def write_inputs():
     write_quotas()
     write_sets()
     write_table()
+    write_head()
     write_shares()
     write_lottery()
 
 
 if __name__ == "__main__":
-    {"write": write_inputs, "check": check_lottery}[sys.argv[1]]()
+    {"write": write_inputs, "check": check_lottery, "solved": check_solved}[sys.argv[1]]()

@@ -1,12 +1,11 @@
 -- Each declared object has a set that holds its whole column.
 use Rattle.std.proofs.Common.{◌≡◌, ◌∙◌, ◌<◌, ◌∷◌, ◌&&◌, [], ℕ, List, Option, Some, None, Bool, true, false, cond, refl, sym, ap, subst, length, filter, get_or, arith, inl, inr}
-use Rattle.std.specs.Prelude.{◌==◌, not, is_some, nat_le, codes}
+use Rattle.std.specs.Prelude.{◌==◌, not, nat_le, codes}
 use Rattle.std.specs.List.{Any, AllByRecursion, IsDistinct, filter_map}
 use Rattle.std.specs.Str.{bytes_eq}
-use Rattle.std.proofs.lemmas.Bool.{cases_Bool, cases_lt, cases_eq, or_cases, or_left, or_right, and_parts, both_ways, leb-true, ne_eqb}
+use Rattle.std.proofs.lemmas.Bool.{cases_Bool, cases_lt, or_cases, or_left, or_right, and_parts, leb-true, ne_eqb}
 use Rattle.std.proofs.lemmas.List.Elements.{filter_map-append}
 use Rattle.std.proofs.lemmas.List.Folds.{list_any-append}
-use Rattle.std.proofs.lemmas.List.Quantifiers.{position-Some}
 use Rattle.std.proofs.lemmas.Map.Made.{AllPairs-from_IsDistinct}
 use Rattle.std.proofs.lemmas.Slice.Eq.{bytes_eq-Decides}
 use Rattle.definitions.specs.Texts.{Row, field, is_name, null_name, has_name, name_index}
@@ -19,7 +18,6 @@ use Rattle.alloc_input.specs.Problems.{LawfulQuotasSuit}
 use Rattle.alloc_input.specs.declared.quotas.words.Word.{Word}
 use Rattle.alloc_input.specs.declared.quotas.words.Word.TheVariants as word
 use Rattle.alloc_input.proofs.OnceEach.{has-each_once}
-use Rattle.alloc_input.proofs.StatedChecks.{some-value}
 use Rattle.alloc_input.proofs.StatedSets.{IsSolveStated, solve-stated}
 
 -- ---- the names that stand once each have different places

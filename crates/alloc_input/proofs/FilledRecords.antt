@@ -1,5 +1,5 @@
 -- The records with fields, each checked against those before it.
-use Rattle.std.proofs.Common.{◌≡◌, ◌∙◌, ◌==◌, ◌<◌, ◌≤◌, ◌++◌, ◌∷◌, [], ℕ, List, Option, Some, None, Bool, true, false, refl, sym, ap, subst, length, get_or, take, arith, inl, inr, ◌⊎◌}
+use Rattle.std.proofs.Common.{◌≡◌, ◌∙◌, ◌==◌, ◌<◌, ◌++◌, ◌∷◌, [], ℕ, List, Option, Some, None, Bool, false, cond, sym, ap, length, get_or, arith, inl, inr, ◌⊎◌}
 use Rattle.std.specs.Prelude.{slice_get}
 use Rattle.std.proofs.Math.Seq.{get_or-append_seam, take-append_seam}
 use Rattle.std.proofs.lemmas.Bool.{cases_Bool, cases_lt}
@@ -7,9 +7,13 @@ use Rattle.std.proofs.lemmas.List.{get_or_append_left, length_push, take-append-
 use Rattle.std.proofs.lemmas.Option.{get_or_from_slice_get, slice_get-get_or, slice_get_within}
 use Rattle.definitions.specs.Firsts.{AreLawful, fault_after}
 use Rattle.definitions.specs.Texts.{Row}
-use Rattle.definitions.proofs.Passed.{fault-keeps}
+use Rattle.definitions.proofs.Passed.{fault-keeps, passed}
 use Rattle.alloc_input.specs.Prefs.{filled_rows}
 use Rattle.alloc_input.proofs.AfterRecords.{filled_rows-blank, filled_rows-more}
+
+-- a record with fields that passes its own checks passes the rest
+pub some-passed : {K : Type 0} (blank text : Bool) (k : K) (rest : Option K) → blank ≡ false → cond blank None (cond text rest (Some k)) ≡ None → rest ≡ None
+some-passed blank text k rest e h = (passed text k rest (rw e at h)).1
 
 -- a place in a list with one more at its end is one before, or the last
 pub push-place : {X : Type 0} (xs : List X) (x y : X) (k : ℕ) → slice_get (xs ++ x ∷ []) k ≡ Some y → ((k < length xs) × (slice_get xs k ≡ Some y)) ⊎ ((k ≡ length xs) × (x ≡ y))

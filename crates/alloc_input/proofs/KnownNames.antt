@@ -1,5 +1,5 @@
 -- Names that are found, and names that aren't, as a lookup answers.
-use Rattle.std.proofs.Common.{◌≡◌, ◌∙◌, ◌++◌, ◌∷◌, [], ℕ, List, Option, Some, Bool, true, false, refl, sym, ap}
+use Rattle.std.proofs.Common.{◌≡◌, ◌∙◌, ◌++◌, ◌∷◌, [], ℕ, List, Option, Some, true, false, refl, sym, ap}
 use Rattle.std.specs.Prelude.{is_some}
 use Rattle.definitions.specs.Texts.{has_name, name_index}
 use Rattle.table_text.proofs.KnownNames.{is_some-name_index, name-absent}

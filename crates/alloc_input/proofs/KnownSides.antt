@@ -1,8 +1,8 @@
 -- The sets that lawful quotas state are of side 1 or 2.
-use Rattle.std.proofs.Common.{◌≡◌, ◌⊎◌, ◌++◌, ◌∷◌, [], ℕ, List, Option, Some, None, Bool, true, false, cond, All, refl, sym, subst, length, get_or, inl, inr}
+use Rattle.std.proofs.Common.{◌≡◌, ◌⊎◌, ◌∷◌, [], ℕ, List, Option, Some, None, Bool, true, false, cond, All, refl, sym, subst, length, get_or, inl, inr}
 use Rattle.std.specs.Prelude.{◌==◌, ◌||◌, is_some, nat_le, not}
 use Rattle.std.specs.List.{list_all}
-use Rattle.std.specs.Str.{bytes_eq, is_utf8}
+use Rattle.std.specs.Str.{is_utf8}
 use Rattle.std.proofs.lemmas.Bool.{cases_lt}
 use Rattle.std.proofs.lemmas.List.{set_past}
 use Rattle.std.proofs.lemmas.List.Elements.{All-nil, All-push, All-set}

@@ -1,5 +1,5 @@
 -- A text reads as one value, or it has one fault.
-use Rattle.std.proofs.Common.{◌≡◌, ◌∙◌, ◌⊎◌, ℕ, List, Option, Some, None, refl, sym, ap, subst, inl, inr}
+use Rattle.std.proofs.Common.{◌≡◌, ◌∙◌, ◌⊎◌, ℕ, List, Option, Some, None, refl, sym, ap, inl, inr}
 use Rattle.std.specs.Prelude.{option_map}
 use Rattle.definitions.specs.Texts.{Row}
 use Rattle.table_text.specs.Rows.{IsTextOf}

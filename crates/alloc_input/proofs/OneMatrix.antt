@@ -1,7 +1,7 @@
 -- A text of a matrix reads as one matrix in lowest terms, or it has one fault.
-use Rattle.std.proofs.Common.{◌≡◌, ◌∙◌, ◌+◌, ◌*◌, ◌/◌, ◌%◌, ◌^◌, ◌<◌, ◌≤◌, ◌++◌, ◌==◌, ◌&&◌, ◌∷◌, [], ℕ, zero, suc, List, Option, Some, None, Bool, true, false, All, cond, refl, sym, ap, subst, length, map, get_or, take, drop, arith, inl, inr}
-use Rattle.std.specs.Prelude.{flat_map, is_none, is_some, nat_lt, slice_get, unwrap_or}
-use Rattle.std.specs.Int.{IsGcd, ◌∣◌}
+use Rattle.std.proofs.Common.{◌≡◌, ◌∙◌, ◌+◌, ◌*◌, ◌/◌, ◌%◌, ◌^◌, ◌<◌, ◌≤◌, ◌++◌, ◌==◌, ◌&&◌, ◌∷◌, [], ℕ, zero, suc, List, Option, Some, None, Bool, true, false, All, cond, refl, sym, ap, subst, length, get_or, take, arith}
+use Rattle.std.specs.Prelude.{flat_map, is_none, nat_lt, slice_get, unwrap_or}
+use Rattle.std.specs.Int.{IsGcd}
 use Rattle.std.specs.List.{AllZip, IsDistinct}
 use Rattle.std.specs.Str.{bytes_eq}
 use Rattle.std.proofs.Math.Nat.{eq_of_mul-eq-mul_right, mod-lt, mul-div_cancel'}
@@ -9,21 +9,21 @@ use Rattle.std.proofs.lemmas.Bool.{and_parts, ltb-true}
 use Rattle.std.proofs.lemmas.List.{length-map, take_all, take_more, get_or-map}
 use Rattle.std.proofs.lemmas.List.Elements.{All-append, All-cons, All-head, All-map, All-nil, All-tail}
 use Rattle.std.proofs.lemmas.Nat.Gcd.{IsGcd-from_mod, IsGcd-from_zero}
-use Rattle.std.proofs.lemmas.Option.{slice_get-get_or, slice_get_within}
-use Rattle.definitions.specs.Texts.{Row, first_field, has_name, is_count, is_decimal, is_name, is_quotient, name_index, number, part_after, part_before, share_of}
+use Rattle.std.proofs.lemmas.Option.{slice_get-get_or}
+use Rattle.definitions.specs.Texts.{Row, first_field, is_count, is_decimal, is_name, is_quotient, name_index, number, part_after, part_before, share_of}
 use Rattle.definitions.specs.Values.{Ratio, SharesValue}
 use Rattle.definitions.proofs.Passed.{among-keeps, passed}
-use Rattle.frac128.specs.Measure.{gcd_positive, lowest_over_gcd, same_fraction}
-use Rattle.scaled_matrix.specs.Entries.{IsShare, IsShares}
+use Rattle.frac128.specs.Measure.{lowest_over_gcd, same_fraction}
+use Rattle.scaled_matrix.specs.Entries.{IsShare}
 use Rattle.table_text.proofs.EveryText.{IsTextOf-some}
 use Rattle.table_text.proofs.TextFacts.{IsTextOf-unique}
 use Rattle.table_text.specs.Rows.{IsTextOf}
 use Rattle.table_text.proofs.KnownNames.{name-new}
-use Rattle.alloc_input.specs.Matrices.{AreLawfulNames, IsMatrix, IsSameShare, ReadsAsMatrix, all_shares, check_header, check_heading, check_shares, entry_texts, header_of, matrix_fault, objects_of, share_in, shares_of}
+use Rattle.alloc_input.specs.Matrices.{IsMatrix, IsSameShare, ReadsAsMatrix, all_shares, check_header, check_heading, check_shares, entry_texts, matrix_fault, objects_of, share_in, shares_of}
 use Rattle.alloc_input.specs.Once.{MatrixReadsOnce, ReadsAsLawful}
 use Rattle.alloc_input.specs.Prefs.{agent_rows, agents_of}
 use Rattle.alloc_input.specs.declared.faults.InputKind.TheVariants as kind
-use Rattle.alloc_input.proofs.EntryFacts.{length-texts, limit-kept}
+use Rattle.alloc_input.proofs.EntryFacts.{limit-kept}
 use Rattle.alloc_input.proofs.LawfulMatrices.{matrix-lawful}
 use Rattle.alloc_input.proofs.NamePlaces.{distinct-new}
 use Rattle.alloc_input.proofs.Once.{HasFaultIn, fault-none, fault-some, fault_in, reads-once}

@@ -1,16 +1,15 @@
 -- What a lawful record of quotas says of its names.
-use Rattle.std.proofs.Common.{◌≡◌, ◌∙◌, ◌==◌, ◌||◌, ◌⊎◌, ◌∷◌, [], ℕ, suc, List, Option, Some, None, Bool, true, false, cond, refl, sym, ap, length, inl, inr}
+use Rattle.std.proofs.Common.{◌≡◌, ◌==◌, ◌||◌, ◌∷◌, [], ℕ, suc, List, Option, Some, None, Bool, true, false, cond, length}
 use Rattle.std.specs.Prelude.{is_some, nat_le, not}
-use Rattle.std.specs.Option.{option_or}
 use Rattle.std.specs.List.{list_all}
 use Rattle.std.specs.Str.{bytes_eq, is_utf8}
 use Rattle.std.proofs.lemmas.Bool.{ne_eqb, not-true}
 use Rattle.definitions.specs.Texts.{Row, field, has_name, is_name, name_index, null_name}
 use Rattle.definitions.proofs.Passed.{both-pass}
 use Rattle.table_text.proofs.KnownNames.{name-absent}
-use Rattle.alloc_input.specs.Checks.{first_of, need}
+use Rattle.alloc_input.specs.Checks.{need}
 use Rattle.alloc_input.specs.Quotas.{check_bundle, check_demand, check_group, check_in, check_kind, check_limits, check_members, check_next, check_object, check_quotas, check_row, check_set, check_word, demand_words, fields_fit, in_words, is_below, object_words, row_words, set_words}
-use Rattle.alloc_input.specs.Stated.{Setting, Stated, add_cells, add_demand, add_object, add_row, add_set, agents_named, ceiling_at, columns_named, floor_at, place_named, side_of, word_of}
+use Rattle.alloc_input.specs.Stated.{Setting, Stated, add_cells, add_object, add_set, agents_named, ceiling_at, columns_named, floor_at, place_named, side_of, word_of}
 use Rattle.alloc_input.specs.declared.faults.InputKind.{InputKind}
 use Rattle.alloc_input.specs.declared.faults.InputKind.TheVariants as kind
 use Rattle.alloc_input.specs.declared.quotas.words.Word.{Word}

@@ -1,5 +1,5 @@
 -- The demands that records of quotas say.
-use Rattle.std.proofs.Common.{◌≡◌, ◌∙◌, ◌==◌, ◌<◌, ◌≤◌, ◌++◌, ◌+◌, ◌-◌, ◌≢◌, ◌∷◌, [], ℕ, zero, suc, List, Option, Some, None, Bool, true, false, cond, refl, sym, ap, subst, length, map, get_or, set, arith, inl, inr}
+use Rattle.std.proofs.Common.{◌≡◌, ◌∙◌, ◌≤◌, ◌++◌, ◌+◌, ◌-◌, ◌≢◌, ◌∷◌, [], ℕ, zero, suc, List, Option, Some, None, Bool, true, false, cond, refl, sym, ap, subst, length, map, get_or, set, arith, inl, inr}
 use Rattle.std.specs.Prelude.{codes, option_map, replicate, slice_set, unwrap_or}
 use Rattle.std.specs.List.{find, range_with_len}
 use Rattle.std.specs.Option.{option_or}
@@ -15,7 +15,7 @@ use Rattle.table_text.specs.Records.{records_of}
 use Rattle.alloc_input.specs.Cells.{numbers_to}
 use Rattle.alloc_input.specs.Quotas.{check_record, quotas_fault}
 use Rattle.alloc_input.specs.SaidQuotas.{demand_of, is_name_at, is_number}
-use Rattle.alloc_input.specs.Stated.{Setting, Stated, add_bundle, add_cells, add_demand, add_group, add_kind, add_object, add_row, add_set, floor_at, nothing, number_or_0, stated_by, stated_from, word_of}
+use Rattle.alloc_input.specs.Stated.{Setting, Stated, add_bundle, add_cells, add_demand, add_group, add_kind, add_object, add_row, add_set, floor_at, number_or_0, stated_by, stated_from, word_of}
 use Rattle.alloc_input.specs.declared.quotas.words.Word.{Word}
 use Rattle.alloc_input.specs.declared.quotas.words.Word.TheVariants as word
 use Rattle.alloc_input.proofs.SaidFields.{rows-said}

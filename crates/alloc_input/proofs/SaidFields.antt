@@ -1,5 +1,5 @@
 -- What all records of a kind state.
-use Rattle.std.proofs.Common.{◌≡◌, ◌∙◌, ◌==◌, ◌++◌, ◌||◌, ◌&&◌, ◌∷◌, [], ℕ, suc, List, Option, Some, None, Bool, true, false, cond, refl, sym, ap, map, length, drop, append_assoc, arith, inl, inr}
+use Rattle.std.proofs.Common.{◌≡◌, ◌∙◌, ◌==◌, ◌++◌, ◌||◌, ◌&&◌, ◌∷◌, [], ℕ, suc, List, Option, Some, None, Bool, true, false, cond, refl, sym, ap, map, length, drop, append_assoc, inl, inr}
 use Rattle.std.specs.Prelude.{codes, not}
 use Rattle.std.specs.List.{cons_option, filter_map, list_any}
 use Rattle.std.proofs.lemmas.Bool.{cases_Bool, ne_eqb}

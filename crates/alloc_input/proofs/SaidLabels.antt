@@ -1,5 +1,5 @@
 -- What a word of an `in` record means: `*`, a name, or a label, which is the name of a group or bundle.
-use Rattle.std.proofs.Common.{◌≡◌, ◌∙◌, ◌==◌, ◌<◌, ◌++◌, ◌||◌, ◌&&◌, ◌∷◌, [], ℕ, suc, List, Option, Some, None, Bool, true, false, cond, refl, sym, ap, subst, filter, length, map, get_or, arith, inl, inr}
+use Rattle.std.proofs.Common.{◌≡◌, ◌∙◌, ◌==◌, ◌<◌, ◌++◌, ◌||◌, ◌&&◌, ◌∷◌, [], ℕ, List, Option, Some, None, Bool, true, false, cond, refl, sym, ap, filter, length, map, get_or, arith, inl, inr}
 use Rattle.std.specs.Prelude.{codes, is_some, nat_le, nat_lt, not, option_map, slice_get}
 use Rattle.std.specs.List.{IsDistinct, list_all, list_any}
 use Rattle.std.specs.Str.{bytes_eq, chars, is_utf8}
@@ -13,7 +13,7 @@ use Rattle.definitions.specs.Texts.{Row, field, has_name, is_name, is_plain, nam
 use Rattle.definitions.proofs.Members.{name_test}
 use Rattle.table_text.proofs.KnownNames.{is_some-name_index}
 use Rattle.alloc_input.specs.Cells.{has_number, numbers_to}
-use Rattle.alloc_input.specs.SaidQuotas.{is_name_at, is_number, lists_number, means, numbers_listed}
+use Rattle.alloc_input.specs.SaidQuotas.{is_number, lists_number, means, numbers_listed}
 use Rattle.alloc_input.specs.Stated.{bind_number, listed, numbers_named}
 use Rattle.alloc_input.proofs.DeclaredSets.{place-of}
 use Rattle.alloc_input.proofs.NumberFacts.{has-range}

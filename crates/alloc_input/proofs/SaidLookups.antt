@@ -1,9 +1,9 @@
 -- What names lead to stays as records go on, and where the sets of names stand.
-use Rattle.std.proofs.Common.{◌≡◌, ◌∙◌, ◌+◌, ◌<◌, ◌≤◌, ◌++◌, ◌⊎◌, ◌∷◌, [], ℕ, List, Option, Some, None, Bool, true, false, cond, refl, sym, ap, subst, length, get_or, length-append, arith, inl, inr}
+use Rattle.std.proofs.Common.{◌≡◌, ◌∙◌, ◌+◌, ◌<◌, ◌++◌, ◌∷◌, [], ℕ, List, Option, Some, None, Bool, true, false, cond, refl, sym, ap, subst, length, get_or, length-append, arith, inl, inr}
 use Rattle.std.specs.Prelude.{codes, is_some, slice_get}
 use Rattle.std.specs.Str.{bytes_eq}
 use Rattle.std.proofs.Math.Seq.{get_or-append_seam}
-use Rattle.std.proofs.lemmas.Bool.{both_ways, cases_lt}
+use Rattle.std.proofs.lemmas.Bool.{both_ways}
 use Rattle.std.proofs.lemmas.List.{append-nil, get_or_append_left, length_push}
 use Rattle.std.proofs.lemmas.List.Folds.{list_any_at}
 use Rattle.std.proofs.lemmas.List.Quantifiers.{position-Some}
@@ -15,7 +15,7 @@ use Rattle.table_text.proofs.KnownNames.{is_some-name_index}
 use Rattle.alloc_input.specs.Cells.{numbers_to}
 use Rattle.alloc_input.specs.Quotas.{check_record}
 use Rattle.alloc_input.specs.SaidQuotas.{set_records}
-use Rattle.alloc_input.specs.Stated.{Setting, Stated, add_kind, agents_named, bind_number, columns_named, listed, nothing, numbers_named, place_named, stated_by, stated_from, word_of}
+use Rattle.alloc_input.specs.Stated.{Setting, Stated, add_kind, bind_number, listed, nothing, numbers_named, stated_by, word_of}
 use Rattle.alloc_input.specs.declared.quotas.words.Word.{Word}
 use Rattle.alloc_input.specs.declared.quotas.words.Word.TheVariants as word
 use Rattle.alloc_input.proofs.FilledRecords.{push-place}

@@ -1,29 +1,27 @@
 -- What the records of a lawful matrix say.
-use Rattle.std.proofs.Common.{◌≡◌, ◌==◌, ◌∙◌, ◌+◌, ◌*◌, ◌<◌, ◌≤◌, ◌++◌, ◌∷◌, [], ℕ, zero, suc, List, Option, Some, None, Bool, true, false, cond, refl, sym, ap, subst, length, map, get_or, take, drop, length-append, mul-le-mul_left, arith, inl, inr}
+use Rattle.std.proofs.Common.{◌≡◌, ◌==◌, ◌∙◌, ◌+◌, ◌*◌, ◌<◌, ◌≤◌, ◌++◌, ◌∷◌, [], ℕ, zero, suc, List, Option, Some, None, false, cond, refl, sym, ap, subst, length, map, get_or, take, drop, length-append, mul-le-mul_left, arith, inl, inr}
 use Rattle.std.specs.Prelude.{codes, flat_map, is_none, not, nat_le, nat_lt, slice_get, unwrap_or}
 use Rattle.std.specs.Int.{◌∣◌}
-use Rattle.std.specs.List.{AllZip, list_all}
-use Rattle.std.specs.Str.{bytes_eq, is_utf8}
+use Rattle.std.specs.List.{list_all}
+use Rattle.std.specs.Str.{is_utf8}
 use Rattle.std.proofs.lemmas.Bool.{leb-true, ne_eqb}
 use Rattle.std.proofs.lemmas.List.{get_or_append_left, get_or-append-add, get_or-map, get_or_past, length-map, take-map}
-use Rattle.std.proofs.lemmas.List.Concat.{length-flat_map}
 use Rattle.std.proofs.lemmas.List.Elements.{AllZip-get_or, length_all_zip}
 use Rattle.std.proofs.lemmas.Nat.Gcd.{dvd_refl, dvd-zero}
 use Rattle.std.proofs.lemmas.Option.{slice_get_cases, slice_get-get_or, slice_get_within, get_or_from_slice_get}
 use Rattle.std.proofs.lemmas.Slice.Eq.{bytes_eq-Decides}
-use Rattle.definitions.specs.Firsts.{AreLawful, fault_after}
+use Rattle.definitions.specs.Firsts.{AreLawful}
 use Rattle.definitions.specs.Texts.{Row, field, first_field, is_name, name_index, share_of}
 use Rattle.definitions.specs.Values.{Ratio, SharesValue}
-use Rattle.definitions.proofs.Passed.{among-keeps, fault-ends, map-none, passed}
+use Rattle.definitions.proofs.Passed.{among-keeps, fault-ends, passed}
 use Rattle.scaled_matrix.specs.Entries.{IsShare, IsShares}
-use Rattle.alloc_input.specs.Checks.{need}
 use Rattle.alloc_input.specs.Matrices.{IsSameShare, ReadsAsMatrix, all_shares, check_entries, check_entry, check_header, check_matrix, check_share, check_shares, entry_texts, header_of, matrix_fault, objects_of, share_in, shares_of}
-use Rattle.alloc_input.specs.Prefs.{agent_rows, agents_of, check_end, filled_rows, has_header}
+use Rattle.alloc_input.specs.Prefs.{agent_rows, agents_of, check_end, filled_rows}
 use Rattle.alloc_input.specs.SaidMatrices.{HasEntry, IsEntrySaid, row_at, text_at}
 use Rattle.alloc_input.specs.declared.faults.InputKind.{InputKind}
 use Rattle.alloc_input.specs.declared.faults.InputKind.TheVariants as kind
 use Rattle.alloc_input.proofs.EntryFacts.{length-shares, text-at, length-texts}
-use Rattle.alloc_input.proofs.FilledRecords.{filled-lawful, push-place}
+use Rattle.alloc_input.proofs.FilledRecords.{filled-lawful, push-place, some-passed}
 use Rattle.alloc_input.proofs.LawfulLists.{some-agents}
 
 -- ---- the records with fields are lawful
@@ -31,9 +29,6 @@ use Rattle.alloc_input.proofs.LawfulLists.{some-agents}
 -- the first failed check of a record with fields, after those before it
 abbrev check_filled : List Row → Row → Option InputKind
 check_filled filled row = cond (not (length filled == 0)) (check_shares (drop 1 (get_or filled 0 [])) (map first_field (drop 1 filled)) row) (check_header row)
-
-some-passed : {K : Type 0} (blank text : Bool) (k : K) (rest : Option K) → blank ≡ false → cond blank None (cond text rest (Some k)) ≡ None → rest ≡ None
-some-passed blank text k rest e h = (passed text k rest (rw e at h)).1
 
 passes-filled : (before : List Row) (row : Row) → (length row == 0) ≡ false → check_matrix before row ≡ None → check_filled (filled_rows before) row ≡ None
 unfolding check_matrix

@@ -1,12 +1,12 @@
 -- What the records of lawful preferences say.
-use Rattle.std.proofs.Common.{◌≡◌, ◌==◌, ◌∙◌, ◌++◌, ◌<◌, ◌||◌, ◌&&◌, ◌∷◌, [], ℕ, suc, List, Option, Some, None, Bool, true, false, All, cond, refl, sym, ap, subst, append_assoc, length, map, filter, get_or, take, drop, arith, inl, inr}
+use Rattle.std.proofs.Common.{◌≡◌, ◌==◌, ◌∙◌, ◌++◌, ◌||◌, ◌&&◌, ◌∷◌, [], ℕ, suc, List, Option, Some, None, Bool, true, false, All, cond, refl, sym, ap, subst, length, map, filter, get_or, take, drop, arith, inl, inr}
 use Rattle.std.specs.Prelude.{codes, is_none, is_some, not, nat_le, nat_lt, slice_get, unwrap_or}
 use Rattle.std.specs.List.{cons_option, filter_map, list_all, list_any}
 use Rattle.std.specs.Str.{bytes_eq, is_utf8}
 use Rattle.std.specs.Option.{option_or}
 use Rattle.std.proofs.Math.Bool.{or-false}
 use Rattle.std.proofs.lemmas.Bool.{and_parts, both_ways, cases_Bool, ne_eqb, not-true}
-use Rattle.std.proofs.lemmas.List.{append-nil, map-append, take-map}
+use Rattle.std.proofs.lemmas.List.{append-nil, map-append}
 use Rattle.std.proofs.lemmas.List.Elements.{All-nil, All-push, filter-append, filter_map-append}
 use Rattle.std.proofs.lemmas.List.Folds.{list_any-append}
 use Rattle.std.proofs.lemmas.Option.{slice_get-get_or, slice_get_within}
@@ -17,7 +17,7 @@ use Rattle.definitions.specs.Values.{ProblemValue}
 use Rattle.definitions.proofs.Members.{name_test}
 use Rattle.definitions.proofs.Passed.{among-keeps, fault-ends, fault-keeps, passed}
 use Rattle.alloc_input.specs.Matrices.{header_of}
-use Rattle.alloc_input.specs.Prefs.{agent_rows, agents_of, check_agent, check_choice, check_choices, check_column, check_end, check_record, column_of, columns_of, fault_of, filled_rows, has_header, list_of, lists_of}
+use Rattle.alloc_input.specs.Prefs.{agent_rows, check_agent, check_choice, check_choices, check_column, check_end, check_record, column_of, columns_of, fault_of, filled_rows, list_of}
 use Rattle.table_text.proofs.KnownNames.{is_some-name_index}
 use Rattle.table_text.specs.Records.{place_of, records_of}
 use Rattle.alloc_input.specs.Problems.{RowsReadAs, in_file, problem_fault, solve_setting}
@@ -25,12 +25,12 @@ use Rattle.alloc_input.specs.Objects.{declared, declared_name, with_name}
 use Rattle.alloc_input.specs.Quotas as quotas
 use Rattle.alloc_input.specs.Quotas.{fields_fit, quotas_fault}
 use Rattle.alloc_input.specs.Stated.{Setting, Stated, nothing, stated_by, stated_from, word_of}
-use Rattle.alloc_input.specs.SaidPreferences.{ending_with_none, list_on, names_on, with_none}
+use Rattle.alloc_input.specs.SaidPreferences.{list_on, names_on, with_none}
 use Rattle.alloc_input.specs.declared.faults.InputKind.{InputKind}
 use Rattle.alloc_input.specs.declared.faults.InputKind.TheVariants as kind
 use Rattle.alloc_input.specs.declared.quotas.words.Word.{Word}
 use Rattle.alloc_input.specs.declared.quotas.words.Word.TheVariants as word
-use Rattle.alloc_input.proofs.FilledRecords.{filled-lawful}
+use Rattle.alloc_input.proofs.FilledRecords.{filled-lawful, some-passed}
 use Rattle.alloc_input.proofs.LawfulLists.{column-passed, some-agents}
 use Rattle.alloc_input.proofs.MatrixSuits.{other-name}
 use Rattle.alloc_input.proofs.NamePlaces.{index-new, index-stays}
@@ -47,9 +47,6 @@ abbrev check_filled : List (List ℕ) → List Row → Row → Option InputKind
 check_filled objects filled row =
     cond (not (length filled == 0)) (check_agent objects (map first_field (drop 1 filled)) row)
     (cond (bytes_eq (first_field row) (codes "agent")) None (Some kind.NoHeader))
-
-some-passed : {K : Type 0} (blank text : Bool) (k : K) (rest : Option K) → blank ≡ false → cond blank None (cond text rest (Some k)) ≡ None → rest ≡ None
-some-passed blank text k rest e h = (passed text k rest (rw e at h)).1
 
 passes-filled : (objects : List (List ℕ)) (before : List Row) (row : Row) → (length row == 0) ≡ false → check_record objects before row ≡ None → check_filled objects (filled_rows before) row ≡ None
 unfolding check_record

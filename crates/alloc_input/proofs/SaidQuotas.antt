@@ -3,22 +3,21 @@ use Rattle.std.proofs.Common.{◌≡◌, ◌∙◌, ◌==◌, ◌<◌, ◌||◌,
 use Rattle.std.specs.Prelude.{codes, not, slice_get, unwrap_or}
 use Rattle.std.specs.List.{list_any}
 use Rattle.std.specs.Str.{bytes_eq}
-use Rattle.std.proofs.lemmas.Bool.{both_ways, cases_Bool, cases_eq, eq-eqb, false_from_ne_true, ne_eqb}
+use Rattle.std.proofs.lemmas.Bool.{cases_Bool, cases_eq, eq-eqb, false_from_ne_true, ne_eqb}
 use Rattle.std.proofs.lemmas.List.{append-nil}
 use Rattle.std.proofs.lemmas.List.Elements.{All-cons, All-head, All-nil, All-tail}
 use Rattle.std.proofs.lemmas.Option.{get_or_from_slice_get, slice_get_within}
-use Rattle.std.proofs.lemmas.Slice.Eq.{bytes_eq-Decides}
 use Rattle.definitions.specs.declared.Cell.{Cell}
-use Rattle.definitions.specs.Sets.{SetValue, all_cells, holds}
-use Rattle.definitions.specs.Texts.{Row, field, first_field}
+use Rattle.definitions.specs.Sets.{all_cells}
+use Rattle.definitions.specs.Texts.{Row, field}
 use Rattle.definitions.proofs.Cells.{member_is_within}
 use Rattle.definitions.proofs.Members.{name_test}
 use Rattle.definitions.proofs.Passed.{fault-keeps}
 use Rattle.table_text.specs.Records.{begins_with, records_of}
-use Rattle.alloc_input.specs.Cells.{covers, has_number}
+use Rattle.alloc_input.specs.Cells.{has_number}
 use Rattle.alloc_input.specs.Quotas.{check_record, quotas_fault}
-use Rattle.alloc_input.specs.SaidQuotas.{adds_cell, cells_where, column_set, is_number, listed_set, means, names_of, numbers_listed, row_set, set_of, set_records, states_set}
-use Rattle.alloc_input.specs.Stated.{Setting, Stated, add_kind, agents_named, ceiling_at, columns_named, floor_at, nothing, numbers_named, place_named, side_of, stated_by, stated_from, word_of}
+use Rattle.alloc_input.specs.SaidQuotas.{adds_cell, column_set, is_number, listed_set, means, row_set, set_of, set_records, states_set}
+use Rattle.alloc_input.specs.Stated.{Setting, Stated, add_kind, agents_named, ceiling_at, columns_named, floor_at, place_named, side_of, stated_by, stated_from, word_of}
 use Rattle.alloc_input.specs.declared.quotas.words.Word.{Word}
 use Rattle.alloc_input.specs.declared.quotas.words.Word.TheVariants as word
 use Rattle.alloc_input.proofs.CellFacts.{filter_same}
@@ -27,7 +26,7 @@ use Rattle.alloc_input.proofs.SaidFields.{bundles-said, bundles-step, contents-s
 use Rattle.alloc_input.proofs.SaidLabels.{AreLabels, label-more, no-labels, word-means}
 use Rattle.alloc_input.proofs.SaidLookups.{kept-same, place_by}
 use Rattle.alloc_input.proofs.SaidPlaces.{stated-more}
-use Rattle.alloc_input.proofs.SaidSets.{AreMade, IsKnown, hits, listed_by, made, sets-stand}
+use Rattle.alloc_input.proofs.SaidSets.{IsKnown, hits, listed_by, made, sets-stand}
 use Rattle.alloc_input.proofs.SaidWords.{is_kind}
 
 -- ---- the labels

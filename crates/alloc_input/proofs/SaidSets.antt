@@ -1,5 +1,5 @@
 -- The sets that lawful records of quotas say.
-use Rattle.std.proofs.Common.{◌≡◌, ◌≢◌, ◌∙◌, ◌==◌, ◌+◌, ◌<◌, ◌≤◌, ◌++◌, ◌||◌, ◌&&◌, ◌⊎◌, ◌∷◌, [], ℕ, suc, List, Option, Some, None, Bool, true, false, All, cond, refl, sym, ap, subst, filter, length, map, get_or, set, arith, inl, inr}
+use Rattle.std.proofs.Common.{◌≡◌, ◌≢◌, ◌∙◌, ◌==◌, ◌+◌, ◌<◌, ◌≤◌, ◌++◌, ◌||◌, ◌&&◌, ◌⊎◌, ◌∷◌, [], ℕ, List, Option, Some, None, Bool, true, false, All, cond, refl, sym, ap, subst, length, get_or, set, arith, inl, inr}
 use Rattle.std.specs.Prelude.{codes, is_some, not, slice_get, slice_index_or, unwrap_or}
 use Rattle.std.specs.List.{list_any}
 use Rattle.std.specs.Str.{bytes_eq}
@@ -20,16 +20,16 @@ use Rattle.definitions.proofs.Passed.{fault-keeps}
 use Rattle.table_text.specs.Records.{begins_with, records_of}
 use Rattle.alloc_input.specs.Cells.{covers, has_number, numbers_to, with_rectangle}
 use Rattle.alloc_input.specs.Quotas.{check_record, check_word, quotas_fault}
-use Rattle.alloc_input.specs.SaidQuotas.{cells_where, column_set, is_name_at, is_number, row_set, set_of, set_records}
-use Rattle.alloc_input.specs.Stated.{Setting, Stated, add_bundle, add_cells, add_demand, add_group, add_kind, add_object, add_row, add_set, agents_named, ceiling_at, columns_named, empty_set, floor_at, grown_at, nothing, number_or_0, numbers_named, place_named, side_of, stated_by, stated_from, with_rectangle_in, with_rectangle_of, word_of}
+use Rattle.alloc_input.specs.SaidQuotas.{cells_where, column_set, is_name_at, is_number, row_set, set_records}
+use Rattle.alloc_input.specs.Stated.{Setting, Stated, add_bundle, add_cells, add_demand, add_group, add_kind, add_object, add_row, add_set, agents_named, ceiling_at, columns_named, empty_set, floor_at, grown_at, nothing, number_or_0, place_named, side_of, stated_by, stated_from, with_rectangle_in, with_rectangle_of, word_of}
 use Rattle.alloc_input.specs.declared.quotas.words.Word.{Word}
 use Rattle.alloc_input.specs.declared.quotas.words.Word.TheVariants as word
 use Rattle.alloc_input.proofs.CellFacts.{filter_same, picked_with_rectangle}
 use Rattle.alloc_input.proofs.FilledRecords.{push-place}
 use Rattle.alloc_input.proofs.NumberFacts.{has-range}
-use Rattle.alloc_input.proofs.SaidChecks.{IsInPassed, IsPassed, demand-passed, in-passed, next-passed, object-passed, row-passed}
-use Rattle.alloc_input.proofs.SaidLookups.{ArePlaces, IsKept, element-stays, kept-kind, kept-on, place_by, places-first, stand-more}
-use Rattle.alloc_input.proofs.SaidPlaces.{set_records-more, sets-counted, stated-more, states_kind}
+use Rattle.alloc_input.proofs.SaidChecks.{IsPassed, in-passed, next-passed, object-passed, row-passed}
+use Rattle.alloc_input.proofs.SaidLookups.{ArePlaces, IsKept, element-stays, kept-kind, kept-on, places-first, stand-more}
+use Rattle.alloc_input.proofs.SaidPlaces.{set_records-more, stated-more, states_kind}
 use Rattle.alloc_input.proofs.SaidWords.{is_kind, kind-test, name_of, records-push}
 use Rattle.alloc_input.proofs.StatedChecks.{some-value}
 

@@ -27,8 +27,6 @@ mod mode;
 mod prefs;
 mod problem;
 mod quotas;
-#[cfg(test)]
-mod tests;
 
 pub use faults::{InputFault, InputKind, InputRefusal};
 pub use laws::{

@@ -26,6 +26,3 @@ mod parents;
 mod trees;
 
 pub use trees::{Trees, TreesFault};
-
-#[cfg(test)]
-mod tests;

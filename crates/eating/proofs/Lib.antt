@@ -21,4 +21,3 @@ pub mod Lines
 pub mod Finishing
 pub mod Starting
 pub mod Handing
-mod SmallestProblem

@@ -49,7 +49,7 @@ same_caps p D e xs ys h k =
     same_units (length p.agents) (column_count p) xs ys h.many k.many (λ i a l m. h.each i a l m ∙ sym (k.each i a l m))
 
 -- a table has one assignment
-one_assignment : (width : ℕ) (market : Market) (D : ℕ) (e : List ℕ) (x y : ScaledValue) → IsAssignmentOf width market D e x → IsAssignmentOf width market D e y → x ≡ y
+pub one_assignment : (width : ℕ) (market : Market) (D : ℕ) (e : List ℕ) (x y : ScaledValue) → IsAssignmentOf width market D e x → IsAssignmentOf width market D e y → x ≡ y
 one_assignment width market D e x y h k =
     same_matrix x y (h.denominator ∙ sym k.denominator) (h.agents ∙ sym k.agents) (h.columns ∙ sym k.columns)
     (same_units (length market.agents) width x.units y.units (many x h) (many y k) (λ i a l m. unit x h i a l m ∙ sym (unit y k i a l m)))

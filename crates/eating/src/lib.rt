@@ -31,6 +31,3 @@ mod serving;
 
 pub use answer::{EatFault, eat};
 pub use eaten::Eaten;
-
-#[cfg(test)]
-mod tests;

@@ -1,18 +1,16 @@
 -- The fields that are written, as they are read.
-use Rattle.std.proofs.Common.{◌≡◌, ◌≢◌, ◌<◌, ◌≤◌, ◌^◌, ◌∷◌, [], ℕ, List, Some, Bool, true, ◌&&◌, not, nat_lt, nat_le, refl, sym, length, get_or, map, arith}
-use Rattle.std.specs.Prelude.{ℤ, pos, negsuc, codes, decimal, nat_abs, unsigned_abs, All, AllPairs}
+use Rattle.std.proofs.Common.{◌≡◌, ◌<◌, ◌≤◌, ◌^◌, ◌∷◌, [], ℕ, List, Some, Bool, true, ◌&&◌, not, nat_lt, nat_le, refl, length, map, arith}
+use Rattle.std.specs.Prelude.{ℤ, pos, negsuc, codes, decimal, nat_abs, unsigned_abs, All}
 use Rattle.std.specs.Fmt.{signed_decimal}
-use Rattle.std.specs.List.{list_all, position_or_len}
+use Rattle.std.specs.List.{list_all}
 use Rattle.std.specs.Str.{is_utf8, bytes_eq, chars, IsAscii}
 use Rattle.std.specs.Int.Signed.{mag}
-use Rattle.std.proofs.lemmas.Bool.{and_parts, lt-ltb, ltb-true, false_from_ne_true}
+use Rattle.std.proofs.lemmas.Bool.{and_parts, ltb-true}
 use Rattle.std.proofs.lemmas.Fmt.{IsAscii-decimal_wide, IsAscii-signed}
 use Rattle.std.proofs.lemmas.List.Elements.{All-head, All-tail}
-use Rattle.std.proofs.lemmas.List.Sums.{position_or_len_is}
-use Rattle.std.proofs.lemmas.Slice.Eq.{bytes_eq-Decides}
 use Rattle.std.proofs.lemmas.Str.{is_utf8-from_IsUtf8, IsUtf8-from_ascii, chars-IsAscii}
 use Rattle.std.proofs.lemmas.Str.Ascii.{IsAscii-nil, IsAscii-cons}
-use Rattle.definitions.specs.Texts.{is_name, is_plain, null_name, name_index, signed_of, number}
+use Rattle.definitions.specs.Texts.{is_name, is_plain, null_name, signed_of, number}
 use Rattle.lottery_file.specs.declared.words.Word.{Word}
 use Rattle.lottery_file.specs.declared.words.Word.TheVariants as word
 use Rattle.lottery_file.proofs.SaidWords.{name_of}

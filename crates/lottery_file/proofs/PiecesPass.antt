@@ -9,7 +9,6 @@ use Rattle.std.proofs.lemmas.List.{length-append}
 use Rattle.std.proofs.lemmas.List.Elements.{All-head, All-tail}
 use Rattle.std.proofs.lemmas.List.Sums.{sum_by-cons, sum_by_push}
 use Rattle.definitions.specs.Texts.{number}
-use Rattle.definitions.specs.Sets.{cell_of, IsBefore}
 use Rattle.definitions.specs.Values.{PieceValue}
 use Rattle.definitions.specs.Pieces.{AreGives}
 use Rattle.definitions.specs.declared.Give.{Give}
@@ -24,6 +23,7 @@ use Rattle.table_text.proofs.RoundTrips.{count_of-decimal}
 use Rattle.lottery_file.proofs.FieldTexts.{decimal-text, name-text}
 use Rattle.lottery_file.proofs.Passing.{Passes, passes-none, passes-as, passes-append}
 use Rattle.lottery_file.proofs.KindsPass.{kind-step, check-piece, check-give, check-end}
+use Rattle.lottery_file.proofs.SoundPieces.{Precedes}
 use Rattle.lottery_file.proofs.HeadPass.{after_all, after-some}
 
 onto-end : (g : Give) (ps : List PieceValue) (p : PieceValue) → onto_last g (ps ++ p ∷ []) ≡ ps ++ (record p { gives = p.gives ++ g ∷ [] }) ∷ []
@@ -35,10 +35,6 @@ follows-end : (i j : ℕ) (ps : List PieceValue) (p : PieceValue) → follows_la
 follows-end i j [] p = refl
 follows-end i j (q ∷ []) p = refl
 follows-end i j (q ∷ r ∷ ps) p = follows-end i j (r ∷ ps) p
-
--- the second give comes after the first, by agent and then column
-abbrev Precedes : Give → Give → Type 0
-Precedes g h = IsBefore (cell_of g.agent g.object) (cell_of h.agent h.object)
 
 after-it : (g h : Give) → Precedes g h → comes_after h.agent h.object g ≡ true
 after-it g h (inl lt) = rw (lt-ltb g.agent h.agent lt) refl

@@ -1,16 +1,12 @@
 -- A lottery that solves a problem is lawful, where its names are and its prices and worths are small.
-use Rattle.std.proofs.Common.{◌≡◌, ◌+◌, ◌-◌, ◌<◌, ◌≤◌, ◌^◌, ◌∙◌, ◌++◌, ◌∷◌, [], ℕ, suc, List, Option, Some, None, true, false, refl, sym, ap, subst, length, get_or, arith, inl, inr, All}
-use Rattle.std.specs.Prelude.{ℤ, MatchOption, nat_abs, is_some, is_none}
+use Rattle.std.proofs.Common.{◌≡◌, ◌+◌, ◌-◌, ◌<◌, ◌≤◌, ◌^◌, ◌∙◌, ◌++◌, ◌∷◌, [], ℕ, suc, List, Option, Some, None, true, false, refl, sym, ap, subst, length, get_or, arith, All}
+use Rattle.std.specs.Prelude.{ℤ, MatchOption, nat_abs, is_none}
 use Rattle.std.specs.List.{AllZip}
-use Rattle.std.specs.Str.{bytes_eq}
-use Rattle.std.proofs.lemmas.Bool.{both_ways, cases_Bool}
 use Rattle.std.proofs.lemmas.Bool.Decides.{Decides-eqb}
 use Rattle.std.proofs.lemmas.List.{length-take, length_push}
 use Rattle.std.proofs.lemmas.List.Elements.{All-head, All-tail}
-use Rattle.std.proofs.lemmas.List.Folds.{list_any_at}
 use Rattle.std.proofs.lemmas.Map.Made.{AllPairs-from_IsDistinct}
 use Rattle.std.proofs.lemmas.Option.{unwrap_or-slice_get}
-use Rattle.std.proofs.lemmas.Slice.Eq.{bytes_eq-Decides}
 use Rattle.definitions.specs.Texts.{null_name, has_name, name_index}
 use Rattle.definitions.specs.Sets.{FamilyValue}
 use Rattle.definitions.specs.Lotteries.{LotteryValue, SolvesFor}

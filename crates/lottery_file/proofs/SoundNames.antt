@@ -1,18 +1,14 @@
 -- Names that pass their checks.
-use Rattle.std.proofs.Common.{◌≡◌, ◌≢◌, ◌+◌, ◌-◌, ◌<◌, ◌≤◌, ◌∙◌, ◌++◌, ◌∷◌, ◌||◌, [], ℕ, suc, zero, List, Option, Some, None, Bool, true, false, cond, refl, sym, ap, length, get_or, arith, ltb, inl, inr}
+use Rattle.std.proofs.Common.{◌≡◌, ◌≢◌, ◌+◌, ◌-◌, ◌<◌, ◌≤◌, ◌∙◌, ◌++◌, ◌∷◌, ◌||◌, [], ℕ, suc, zero, List, Some, None, Bool, true, false, cond, refl, sym, ap, length, get_or, arith, ltb, inl, inr}
 use Rattle.std.specs.Prelude.{is_some, is_none, slice_get}
-use Rattle.std.specs.List.{position_or_len}
 use Rattle.std.specs.Str.{bytes_eq}
-use Rattle.std.proofs.lemmas.Bool.{cases_Bool, cases_lt, both_ways, ltb-true, lt-ltb, le-ltb, false_from_ne_true}
-use Rattle.std.proofs.lemmas.Bool.Decides.{nat_tests}
+use Rattle.std.proofs.lemmas.Bool.{cases_Bool, cases_lt, ltb-true, false_from_ne_true}
 use Rattle.std.proofs.lemmas.List.{length_push, get_or_append_left}
 use Rattle.std.proofs.lemmas.List.Elements.{All-nil, All-push}
-use Rattle.std.proofs.lemmas.List.Folds.{list_any_none}
-use Rattle.std.proofs.lemmas.List.Quantifiers.{all_pairs_push, position-Some}
-use Rattle.std.proofs.lemmas.List.Sums.{fails_before_first}
+use Rattle.std.proofs.lemmas.List.Quantifiers.{all_pairs_push}
 use Rattle.std.proofs.lemmas.Option.{slice_get_within, get_or_from_slice_get, slice_get-get_or}
 use Rattle.std.proofs.lemmas.Slice.Eq.{bytes_eq-Decides}
-use Rattle.definitions.specs.Texts.{null_name, is_name, has_name, name_index}
+use Rattle.definitions.specs.Texts.{null_name, is_name, name_index}
 use Rattle.definitions.specs.Lotteries.{ends_with_none}
 use Rattle.definitions.specs.Firsts.{first_among}
 use Rattle.definitions.proofs.Passed.{among-keeps}

@@ -15,7 +15,7 @@ use Rattle.lottery_file.proofs.PieceFacts.{weight-last, follows-give}
 use Rattle.lottery_file.proofs.SoundWords.{ArePieces}
 
 -- the second give comes after the first, by agent and then column
-abbrev Precedes : Give → Give → Type 0
+abbrev pub Precedes : Give → Give → Type 0
 Precedes g h = IsBefore (cell_of g.agent g.object) (cell_of h.agent h.object)
 
 abbrev IsInRange : ℕ → ℕ → Give → Type 0

@@ -32,8 +32,6 @@ mod reading;
 mod records;
 mod rows;
 mod state;
-#[cfg(test)]
-mod tests;
 mod totals;
 mod words;
 mod writers;

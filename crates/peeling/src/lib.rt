@@ -11,6 +11,3 @@ mod peeler;
 
 pub use collect::all_pieces;
 pub use peeler::Peeler;
-
-#[cfg(test)]
-mod tests;

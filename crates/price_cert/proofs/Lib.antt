@@ -9,4 +9,3 @@ pub mod RecipeAgrees
 pub mod Rising
 pub mod Small
 pub mod WorthSteps
-mod SmallestProblem

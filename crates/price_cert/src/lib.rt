@@ -28,6 +28,3 @@ mod recipe;
 mod worths;
 
 pub use answer::{certificate, recipe_certifies};
-
-#[cfg(test)]
-mod tests;

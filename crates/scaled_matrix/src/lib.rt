@@ -24,6 +24,3 @@ mod shares;
 pub use laws::{answers_are_exact, one_answer};
 pub use scaling::{ScaleFault, scale};
 pub use shares::Shares;
-
-#[cfg(test)]
-mod tests;

@@ -33,6 +33,3 @@ pub use rows::{Rows, records};
 pub use shares::read_share;
 pub use words::{is_word, put_end, put_number, put_two, row_of_number, row_of_two, row_of_words};
 pub use writing::row_bytes;
-
-#[cfg(test)]
-mod tests;

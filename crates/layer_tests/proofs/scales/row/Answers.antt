@@ -1,5 +1,5 @@
 use Rattle.std.proofs.Common.{◌≡◌, ℕ, ◌*◌, ◌∙◌, length, refl, sym, ap, arith, one-mul}
-use Rattle.scaled_matrix.proofs.tests.row.Goals as goal
+use Rattle.layer_tests.proofs.scales.row.Goals as goal
 
 one_row : (cells agents objects : ℕ) → agents ≡ 1 → objects ≡ cells → cells ≡ agents * objects
 one_row cells agents objects one many = sym many ∙ sym (one-mul objects) ∙ ap (λ n. n * objects) (sym one)

@@ -1,7 +1,6 @@
-// What no contract says: with ample memory a matrix is peeled, with cells and without. Tests of whole
-// runs have the pieces of worked matrices.
-use super::*;
+// Matrices are peeled, with cells and without.
 use bihierarchy::Trees;
+use peeling::{Peeler, all_pieces};
 use quota_sets::{Family, Scaled};
 use std::test::Fail;
 

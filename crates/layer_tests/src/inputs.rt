@@ -1,15 +1,29 @@
-//! What no contract says: with ample memory each reader answers. Tests of whole runs have the faults of the texts.
+// Readers of demands and of quotas over a matrix.
+ghost use Rattle.std.specs.Prelude.{◌≡◌, false, OnOk};
+ghost use Rattle.definitions.specs.Texts.{has_name, null_name};
 
-use super::*;
-use crate::fields::need_new;
+use alloc_input::{
+    Mode, lawful_matrices_suit, read_demands, read_matrix, read_problem, read_quotas,
+};
+use quota_sets::Names;
 use std::test::Fail;
+
+// No object is named `none`.
+fn need_plain(objects: &Names) -> Result<(), Fail>
+    ensures { OnOk result (has_name objects.now null_name ≡ false) }
+{
+    if objects.find_bytes(b"none").is_some() {
+        Err("an object none")?;
+    }
+    Ok(())
+}
 
 #[test]
 fn demands_of_a_problem(rt: HostRuntime) -> Result<(), Fail> {
     let quotas = b"object,a\nagent,v,2,2\n".as_slice();
     let problem = read_problem(rt.alloc(), b"agent\nu\nv\nx\n", quotas)?;
     let objects = problem.objects();
-    need_new(objects, b"none", InputKind::NoneInSet)?;
+    need_plain(objects)?;
     let demands = read_demands(rt.alloc(), quotas, problem.agents(), objects)?;
     assert_eq!(rt; demands.as_slice(), [1, 2, 1].as_slice());
     Ok(())

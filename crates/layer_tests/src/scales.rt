@@ -1,9 +1,10 @@
+// The units of shares over their least common denominator.
 ghost use Rattle.std.specs.Prelude.{◌*◌, ◌≤◌, All};
 ghost use Rattle.frac128.specs.Fraction.{numerator, denominator};
 
-use super::*;
 use frac128::Fraction;
 use quota_sets::{Cell, Names};
+use scaled_matrix::{Shares, scale};
 use std::alloc::Global;
 use std::test::Fail;
 

@@ -1,7 +1,8 @@
+// The parents and deepest sets of nested and of equal sets.
 ghost use Rattle.std.specs.Prelude.{◌≡◌, ◌∷◌, [], IfOk};
 ghost use Rattle.definitions.specs.Sets.{cell_of};
 
-use super::*;
+use bihierarchy::Trees;
 use quota_sets::{Cell, Family, QuotaSet};
 use std::alloc::{AllocError, Global};
 use std::test::Fail;

@@ -1,10 +1,12 @@
-//! What the clauses leave to the definitions of `csv`, values at the ends of their ranges, and that
-//! each call that wants memory succeeds.
+// What the clauses leave to the definitions of `csv`, and values at the ends of their ranges.
 
-use super::*;
 use std::alloc::Global;
 use std::process::Abort;
 use std::test::Fail;
+use table_text::{
+    Row, is_word, lawful_name, put_end, put_number, put_two, read_count, read_share, read_signed,
+    records, row_bytes, row_of_words,
+};
 
 // The records of a text are these.
 fn has_rows(rt: &impl Abort, alloc: Global, text: &[u8], wanted: &[&[&[u8]]]) -> Result<(), Fail> {
@@ -86,7 +88,7 @@ fn written_records(rt: HostRuntime) -> Result<(), Fail> {
     Ok(())
 }
 
-// The lines at the head of the crate.
+// The lines at the head of table_text.
 #[test]
 fn read_and_written(rt: HostRuntime) -> Result<(), Fail> {
     let alloc = rt.alloc();

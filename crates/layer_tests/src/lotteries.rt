@@ -1,7 +1,6 @@
-// What no contract says: with ample memory a lottery is read and written, whole and by its parts.
-// Tests of whole runs have each fault of a text, and writes that are refused.
-use super::*;
+// Lotteries are read and written, whole and by their parts.
 use device_core::SureSink;
+use lottery_file::{read_lottery, write_end, write_head, write_lottery, write_piece};
 use std::test::Fail;
 
 // Two agents who share two objects, without prices.

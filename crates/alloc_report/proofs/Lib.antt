@@ -1,0 +1,4 @@
+mod ColumnsLemmas
+mod MembersLemmas
+mod UnitsLemmas
+mod WeightsLemmas

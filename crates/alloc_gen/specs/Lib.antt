@@ -1,0 +1,5 @@
+pub mod Limits
+pub mod Made
+pub mod MadeLists
+pub mod MadeSets
+pub mod Words

@@ -1,8 +1,7 @@
 -- How the answers of a step stand in the outcome of its command, and that an outcome that refuses has no other answer.
-use Rattle.std.proofs.Common.{◌≡◌, ◌∙◌, sym, ap, subst, List, [], ◌∷◌, ℕ, Result, Ok, Err, arith, length}
-use Rattle.std.specs.Prelude.{slice_index_or}
+use Rattle.std.proofs.Common.{◌≡◌, ◌∙◌, sym, ap, subst, List, [], ◌∷◌, ℕ, Result, Ok, Err}
 use Rattle.alloc_outcomes.specs.declared.cause.Cause.{Cause}
-use Rattle.alloc_outcomes.specs.Answers.{Answer, refuse, text, RefusesAlone, IsText, Then, Follows, Gives, on_one, on_two, on_three}
+use Rattle.alloc_outcomes.specs.Answers.{Answer, refuse, text, RefusesAlone, IsText, Then, Follows, Gives, on_none, on_one, on_two, on_three}
 
 -- ---- parts of an outcome
 
@@ -32,26 +31,6 @@ pub passed : {A F : Type 0} {cause_of : F → Cause} {relation : Result A F → 
     → ((r s : Result A F) → relation r → relation s → r ≡ s) → (x : A) → relation (Ok x) → (answer : Answer) → Gives cause_of relation rest answer → rest x answer
 passed {cause_of = cause_of} {rest = rest} one x holds answer g = subst (λ r. Follows cause_of rest r answer) (one g.found (Ok x) g.holds holds) g.follows
 
--- what one file gave, what two gave, and what three gave
-pub on_one_part : (outcome : List ℕ → Answer → Type 0) (given : List (List ℕ)) → length given ≡ 1 → IsPart (outcome (slice_index_or given 0 [])) (on_one outcome given)
-on_one_part outcome [] count answer h = absurd (omega (arith, count))
-on_one_part outcome (first ∷ []) count answer h = h
-on_one_part outcome (first ∷ second ∷ more) count answer h = absurd (omega (arith, count))
-
-pub on_two_part : (outcome : List ℕ → List ℕ → Answer → Type 0) (given : List (List ℕ)) → length given ≡ 2 → IsPart (outcome (slice_index_or given 0 []) (slice_index_or given 1 [])) (on_two outcome given)
-on_two_part outcome [] count answer h = absurd (omega (arith, count))
-on_two_part outcome (first ∷ []) count answer h = absurd (omega (arith, count))
-on_two_part outcome (first ∷ second ∷ []) count answer h = h
-on_two_part outcome (first ∷ second ∷ third ∷ more) count answer h = absurd (omega (arith, count))
-
-pub on_three_part : (outcome : List ℕ → List ℕ → List ℕ → Answer → Type 0) (given : List (List ℕ)) → length given ≡ 3
-    → IsPart (outcome (slice_index_or given 0 []) (slice_index_or given 1 []) (slice_index_or given 2 [])) (on_three outcome given)
-on_three_part outcome [] count answer h = absurd (omega (arith, count))
-on_three_part outcome (first ∷ []) count answer h = absurd (omega (arith, count))
-on_three_part outcome (first ∷ second ∷ []) count answer h = absurd (omega (arith, count))
-on_three_part outcome (first ∷ second ∷ third ∷ []) count answer h = h
-on_three_part outcome (first ∷ second ∷ third ∷ fourth ∷ more) count answer h = absurd (omega (arith, count))
-
 -- ---- an outcome that refuses has no other answer
 
 pub text_alone : (t : List ℕ) → RefusesAlone (IsText t)
@@ -72,6 +51,10 @@ pub gives_alone : {A F : Type 0} {cause_of : F → Cause} {relation : Result A F
 gives_alone {A = A} {F = F} {cause_of = cause_of} {relation = relation} {rest = rest} one alone due answer h k =
     let P : Result A F → Type 0 = λ r. Follows cause_of rest r answer in
     follows_alone cause_of relation rest alone h.found h.holds due answer h.follows (subst P (one k.found h.found k.holds h.holds) k.follows)
+
+pub on_none_alone : {outcome : Answer → Type 0} → RefusesAlone outcome → (given : List (List ℕ)) → RefusesAlone (on_none outcome given)
+on_none_alone alone [] due answer h k = alone due answer h k
+on_none_alone alone (first ∷ more) due answer h k = absurd h
 
 pub on_one_alone : {outcome : List ℕ → Answer → Type 0} → ((first : List ℕ) → RefusesAlone (outcome first)) → (given : List (List ℕ)) → RefusesAlone (on_one outcome given)
 on_one_alone alone [] due answer h k = absurd h

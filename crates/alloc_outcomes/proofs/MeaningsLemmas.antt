@@ -1,8 +1,8 @@
 -- What has to be known of a command's meaning, and what follows for what its files gave.
-use Rattle.std.proofs.Common.{◌≡◌, ◌≤◌, ℕ, List, [], ◌∷◌, length}
-use Rattle.alloc_outcomes.specs.Answers.{RefusesAlone, on_one, on_two, on_three}
+use Rattle.std.proofs.Common.{◌≤◌, ℕ, List, [], ◌∷◌, length}
+use Rattle.alloc_outcomes.specs.Answers.{RefusesAlone, on_none, on_one, on_two, on_three}
 use Rattle.alloc_outcomes.specs.Limits.{file_limit}
-use Rattle.alloc_outcomes.specs.Meanings.{OneMeaning, TwoMeaning, ThreeMeaning, said_on_one, said_on_two, said_on_three}
+use Rattle.alloc_outcomes.specs.Meanings.{NoneMeaning, OneMeaning, TwoMeaning, ThreeMeaning, said_on_none, said_on_one, said_on_two, said_on_three}
 use Rattle.alloc_outcomes.specs.Sentences.{Run}
 use Rattle.alloc_outcomes.proofs.SentencesLemmas.{Came}
 
@@ -12,6 +12,10 @@ AreShort [] = Unit {0}
 AreShort (file ∷ files) = (length file ≤ file_limit) × AreShort files
 
 -- an outcome that refuses has no other answer, and the sentence follows from what comes of short files
+pub record IsMeantOfNone (m : NoneMeaning) : Type 0 where
+  pub alone : RefusesAlone m.answers
+  pub holds : (run : Run) → Came m.answers run → m.says run
+
 pub record IsMeantOfOne (m : OneMeaning) : Type 0 where
   pub alone : (first : List ℕ) → RefusesAlone (m.answers first)
   pub holds : (first : List ℕ) (run : Run) → (length first ≤ file_limit → Came (m.answers first) run) → m.says first run
@@ -26,6 +30,10 @@ pub record IsMeantOfThree (m : ThreeMeaning) : Type 0 where
   pub holds : (first second third : List ℕ) (run : Run)
       → (length first ≤ file_limit → length second ≤ file_limit → length third ≤ file_limit → Came (m.answers first second third) run)
       → m.says first second third run
+
+pub none_says : (m : NoneMeaning) → IsMeantOfNone m → (given : List (List ℕ)) (run : Run) → (AreShort given → Came (on_none m.answers given) run) → said_on_none m.says given run
+none_says m meant [] run came = meant.holds run (came tt)
+none_says m meant (first ∷ more) run came = tt
 
 pub one_says : (m : OneMeaning) → IsMeantOfOne m → (given : List (List ℕ)) (run : Run) → (AreShort given → Came (on_one m.answers given) run) → said_on_one m.says given run
 one_says m meant [] run came = tt

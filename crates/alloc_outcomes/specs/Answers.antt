@@ -39,6 +39,11 @@ pub record Gives {A F : Type 0} (cause_of : F → Cause) (relation : Result A F 
   pub holds : relation found
   pub follows : Follows cause_of rest found answer
 
+-- an outcome that asks no file
+abbrev pub on_none : (Answer → Type 0) → List (List ℕ) → Answer → Type 0
+on_none outcome [] answer = outcome answer
+on_none outcome _ answer = ⊥
+
 -- an outcome by what one file gave
 abbrev pub on_one : (List ℕ → Answer → Type 0) → List (List ℕ) → Answer → Type 0
 on_one outcome (first ∷ []) answer = outcome first answer

@@ -4,6 +4,11 @@ use Rattle.std.specs.Prelude.{ℕ, List, [], ◌∷◌}
 use Rattle.alloc_outcomes.specs.Answers.{Answer}
 use Rattle.alloc_outcomes.specs.Sentences.{Run}
 
+-- of a command on no file
+pub record NoneMeaning : Type 1 where
+  pub answers : Answer → Type 0
+  pub says : Run → Type 0
+
 -- of a command on one file
 pub record OneMeaning : Type 1 where
   pub answers : List ℕ → Answer → Type 0
@@ -19,7 +24,11 @@ pub record ThreeMeaning : Type 1 where
   pub answers : List ℕ → List ℕ → List ℕ → Answer → Type 0
   pub says : List ℕ → List ℕ → List ℕ → Run → Type 0
 
--- what is said of a run on one file, on two, and on three
+-- what is said of a run on no file, on one, on two, and on three
+abbrev pub said_on_none : (Run → Type 0) → List (List ℕ) → Run → Type 0
+said_on_none says [] run = says run
+said_on_none says _ run = Unit {0}
+
 abbrev pub said_on_one : (List ℕ → Run → Type 0) → List (List ℕ) → Run → Type 0
 said_on_one says (first ∷ []) run = says first run
 said_on_one says _ run = Unit {0}

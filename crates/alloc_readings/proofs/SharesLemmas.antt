@@ -1,5 +1,5 @@
 -- A text is one matrix in lowest terms, and its shares scale to one matrix of units, or have one first entry at fault.
-use Rattle.std.proofs.Common.{◌≡◌, ◌⊎◌, ℕ, List, Result, Ok, Err, ap, inl, inr, subst}
+use Rattle.std.proofs.Common.{◌≡◌, ℕ, List, Result, Ok, Err, ap, inl, inr, subst}
 use Rattle.alloc_input.specs.declared.faults.InputFault.{InputFault}
 use Rattle.alloc_input.proofs.OneMatrix.{matrix-once}
 use Rattle.alloc_readings.specs.Shares.{MatrixTextReads, ScalesOrNot}

@@ -1,5 +1,5 @@
 -- `sets`: the text of the stated sets, and that it has one answer.
-use Rattle.std.proofs.Common.{◌≡◌, ◌<◌, ℕ, ◌+◌, List, [], ◌∷◌, ◌++◌, map, length, sym, ◌∙◌, ap, append_assoc, arith}
+use Rattle.std.proofs.Common.{◌≡◌, ◌<◌, ℕ, ◌+◌, List, [], ◌∷◌, ◌++◌, length, sym, ◌∙◌, ap, arith}
 use Rattle.std.specs.Prelude.{codes, decimal}
 use Rattle.definitions.specs.Trees.{TreesValue}
 use Rattle.definitions.specs.Sets.{FamilyValue, SetValue}

@@ -1,5 +1,5 @@
 -- `table`: the text of a table by its parts, and that it has one answer.
-use Rattle.std.proofs.Common.{◌≡◌, ◌+◌, ◌-◌, ℕ, List, [], ◌∷◌, ◌++◌, map, length, Result, Ok, Err, sym, ◌∙◌, ap, append_assoc, arith}
+use Rattle.std.proofs.Common.{◌≡◌, ◌+◌, ◌-◌, ℕ, List, [], ◌∷◌, ◌++◌, map, length, sym, ◌∙◌, ap, append_assoc, arith}
 use Rattle.std.specs.Prelude.{codes, decimal, slice_index}
 use Rattle.std.specs.List.{range_with_len}
 use Rattle.std.proofs.lemmas.List.{length-append, length-map, length-take-le}
@@ -12,7 +12,7 @@ use Rattle.eating.specs.Answers.{IsEaten}
 use Rattle.eating_laws.proofs.Limits.{agent_count}
 use Rattle.eating.specs.Eaten.{EatenValue}
 use Rattle.table_text.specs.Rows.{rows_text}
-use Rattle.alloc_outcomes.specs.Answers.{Answer, Gives, IsText, RefusesAlone}
+use Rattle.alloc_outcomes.specs.Answers.{Gives, IsText, RefusesAlone}
 use Rattle.alloc_outcomes.specs.Causes.{too_fine_cause}
 use Rattle.alloc_outcomes.proofs.AnswersLemmas.{gives_alone, text_alone}
 use Rattle.alloc_outcomes.proofs.MeaningsLemmas.{IsMeantOfTwo}
@@ -20,7 +20,7 @@ use Rattle.alloc_readings.specs.Eaten.{EatsOrTooFine}
 use Rattle.alloc_readings.proofs.EatenLemmas.{one_table}
 use Rattle.alloc_readings.proofs.ProblemLemmas.{one_problem, problem_known}
 use Rattle.alloc_readings.proofs.TreesLemmas.{trees_alone}
-use Rattle.alloc_tables.specs.Table.{agent_row, columns_row, eaten_rows, eaten_text, head_rows, moment_row, moment_rows, table_meaning, table_rows, units_in, TableAnswers}
+use Rattle.alloc_tables.specs.Table.{agent_row, columns_row, eaten_text, head_rows, moment_row, moment_rows, table_meaning, table_rows, TableAnswers}
 use Rattle.alloc_tables.proofs.RowsLemmas.{rows-then, rows-more}
 
 -- one more field after n that go by number

@@ -1,3 +1,4 @@
 pub mod DrawLemmas
 pub mod PickLemmas
 mod PickedLemmas
+pub mod ReportLemmas

@@ -1,3 +1,4 @@
 pub mod Draw
 pub mod Pick
 pub mod Picked
+pub mod Report

@@ -1,5 +1,5 @@
-//! Commands that draw from a lottery: `pick` the piece of a ticket, and `draw` that of the ticket
-//! that a seed names.
+//! Commands on a lottery: `pick` the piece of a ticket, `draw` that of the ticket that a seed names,
+//! and `report` the summary.
 //!
 //! Each is a step: it reads its files, decides, puts its text together and writes it. No step knows
 //! the words that ask for it, nor any other command.
@@ -16,9 +16,13 @@
 //!
 //! // Each seed names the one ticket of a denominator of 1.
 //! draw::step(alloc, text, [7; 32], &mut out)?;
+//!
+//! // One line of JSON.
+//! report::step(alloc, text, &mut out)?;
 //! ```
 #![tactic(auto)]
 
 pub mod draw;
 pub mod pick;
 mod picked;
+pub mod report;

@@ -2,6 +2,7 @@ mod CopiesLemmas
 mod Decomposed
 pub mod DecomposeLemmas
 mod Filled
+pub mod GenerateLemmas
 mod Loop
 pub mod ReadsBackLemmas
 mod SmallRecipe

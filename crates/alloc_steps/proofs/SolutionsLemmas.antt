@@ -1,30 +1,17 @@
 -- The lotteries that solve a problem: they are one but for the pieces, and there is one where there are few moments.
-use Rattle.std.proofs.Common.{◌≡◌, ◌∙◌, ◌*◌, ◌<◌, ℕ, List, Option, Some, ap, sym, subst, length, arith}
+use Rattle.std.proofs.Common.{◌≡◌, ◌∙◌, ◌<◌, ℕ, List, Option, Some, ap, sym, subst, length, arith}
 use Rattle.std.specs.Prelude.{◌^◌}
 use Rattle.definitions.specs.Certificate.{IsRecipeOf, distinct_moments}
-use Rattle.definitions.specs.Eating.{IsAssignmentOf, demand_sum, share}
+use Rattle.definitions.specs.Eating.{IsAssignmentOf, demand_sum}
 use Rattle.definitions.specs.Lotteries.{LotteryValue, DesignValue, SolvesFor}
-use Rattle.definitions.specs.Sets.{FamilyValue, ScaledValue, cell_of, unit_at}
-use Rattle.definitions.specs.Values.{Market, PieceValue, PricesValue, ProblemValue, IsProblem, column_count, limits_of, market_of}
+use Rattle.definitions.specs.Sets.{FamilyValue, ScaledValue}
+use Rattle.definitions.specs.Values.{PieceValue, PricesValue, ProblemValue, IsProblem, column_count, limits_of, market_of}
 use Rattle.eating_laws.proofs.Limits.{demand_total}
 use Rattle.eating_laws.proofs.Unique.{same_table}
 use Rattle.certificate_laws.proofs.RecipePrices.{same_recipe}
 use Rattle.eating.proofs.ManyMoments.{many_moments}
-use Rattle.eating.proofs.OneAnswer.{same_matrix, same_units}
+use Rattle.eating.proofs.OneAnswer.{one_assignment}
 use Rattle.alloc_steps.specs.Solutions.{FitsWithFew}
-
--- a table has one assignment
-one_assignment : (width : ℕ) (market : Market) (D : ℕ) (e : List ℕ) (x y : ScaledValue) → IsAssignmentOf width market D e x → IsAssignmentOf width market D e y → x ≡ y
-one_assignment width market D e x y h k =
-    same_matrix x y (h.denominator ∙ sym k.denominator) (h.agents ∙ sym k.agents) (h.columns ∙ sym k.columns)
-    (same_units (length market.agents) width x.units y.units (many x h) (many y k) (λ i a l m. unit x h i a l m ∙ sym (unit y k i a l m)))
-  where
-    many : (z : ScaledValue) → IsAssignmentOf width market D e z → length z.units ≡ length market.agents * width
-    many z g = g.shape ∙ ap (λ n. n * z.columns) g.agents ∙ ap (λ n. length market.agents * n) g.columns
-
-    unit : (z : ScaledValue) → IsAssignmentOf width market D e z → (i a : ℕ) → i < length market.agents → a < width → unit_at width z.units (cell_of i a) ≡ share market D e i a
-    unit z g i a l m =
-        ap (λ n. unit_at n z.units (cell_of i a)) (sym g.columns) ∙ g.units i a (subst (λ n. i < n) (sym g.agents) l) (subst (λ n. a < n) (sym g.columns) m)
 
 -- a lottery by its parts
 make : (agents columns : List (List ℕ)) (shares : ScaledValue) (lists : List (List ℕ)) (prices : Option PricesValue) (pieces : List PieceValue) (design : Option DesignValue) → LotteryValue

@@ -1,22 +1,23 @@
 -- The lottery that a decomposition of what is eaten in a problem makes.
-use Rattle.std.proofs.Common.{◌≡◌, ◌∙◌, ◌++◌, ◌∷◌, [], ℕ, suc, List, Option, Some, Result, arith, inl, length, length-append, refl, subst, sym, true}
-use Rattle.std.specs.Prelude.{slice_get}
+use Rattle.std.proofs.Common.{◌≡◌, ◌∙◌, ◌++◌, ◌∷◌, [], ℕ, suc, All, List, Option, None, Some, Result, ap, arith, inl, length, length-append, refl, subst, sym, true}
+use Rattle.std.specs.Prelude.{slice_get, sum_by}
 use Rattle.std.specs.List.{AllZip}
 use Rattle.std.proofs.lemmas.Option.{slice_get_within}
 use Rattle.definitions.specs.Certificate.{Certifies, HasShapeOf, IsRecipeOf}
-use Rattle.definitions.specs.Lotteries.{Solves, ends_with_none, matrices_of}
+use Rattle.definitions.specs.Lotteries.{LotteryValue, Solves, ends_with_none, matrices_of}
 use Rattle.definitions.specs.Peelings.{PeelerValue, sets_of}
-use Rattle.definitions.specs.Pieces.{Decomposes, WeightedMatrix}
+use Rattle.definitions.specs.Pieces.{AreGives, Decomposes, WeightedMatrix, weighted, weighted_pieces}
 use Rattle.definitions.specs.Sets.{FamilyValue, ScaledValue, IsScaledMatrix, cells_of, units_of}
 use Rattle.definitions.specs.Texts.{null_name}
-use Rattle.definitions.specs.Values.{IsProblem, PricesValue, ProblemValue}
+use Rattle.definitions.specs.Values.{IsProblem, PieceValue, PricesValue, ProblemValue}
 use Rattle.definitions.proofs.Gives.{AreShaped}
+use Rattle.definitions.proofs.Sums.{sum_mapped}
 use Rattle.device_core.specs.declared.faults.SinkFault.{SinkFault}
 use Rattle.eating.specs.Answers.{IsEatenBy}
 use Rattle.eating.specs.Eaten.{EatenValue}
 use Rattle.eating_laws.proofs.Limits.{agent_count}
 use Rattle.lottery_file.specs.Written.{ShapesAgree}
-use Rattle.peeling.specs.Peelers.{IsPeeler, IsStart}
+use Rattle.peeling.specs.Peelers.{ArePiecesOf, IsPeeler, IsStart}
 use Rattle.alloc_steps.specs.Writing.{lottery_with, WritesLottery, WritesPieces}
 use Rattle.alloc_steps.proofs.Decomposed.{decompose_with, decomposes_at, lawful_with, shaped_at}
 
@@ -39,6 +40,18 @@ worths_agree : (p : ProblemValue) (y : PricesValue) → HasShapeOf p y → AllZi
 worths_agree p y shape =
     zip_places (λ list worth. length worth ≡ length list) p.lists y.worth shape.lists
     (λ i list worth e f. rw (f, e) at (shape.places i (slice_get_within p.lists i list e)))
+
+-- a lottery by its parts, without a design
+unfoldable pub put_together : (agents columns : List (List ℕ)) (shares : ScaledValue) (lists : List (List ℕ)) (prices : Option PricesValue) (pieces : List PieceValue) → LotteryValue
+put_together agents columns shares lists prices pieces = record {
+  agents = agents;
+  columns = columns;
+  shares = shares;
+  lists = lists;
+  prices = prices;
+  pieces = pieces;
+  design = None;
+}
 
 -- what is eaten in a problem, with prices that certify it
 module _ (p : ProblemValue) (v : EatenValue) (y : PricesValue) (e : List ℕ) (lawful : IsProblem p) (eaten : IsEatenBy p e v) (certified : Certifies p v.shares.denominator (units_of v.shares) y) where
@@ -99,6 +112,64 @@ module _ (p : ProblemValue) (v : EatenValue) (y : PricesValue) (e : List ℕ) (l
         has = solves_with did.pieces matrix recipe shaped (decomposes_at p.family v.shares w did.pieces start wide did.decompose);
         bytes = did.bytes;
       }
+
+  -- the lottery of such pieces in a list solves the problem
+  solves_list : (pieces : List PieceValue) (w : PeelerValue) → IsScaledMatrix v.shares → IsRecipeOf p v.shares.denominator e y → IsStart p.family v.shares w → ArePiecesOf w pieces
+      → Solves p (put_together p.agents with_none v.shares p.lists (Some y) pieces)
+  unfolding put_together
+  solves_list pieces w matrix recipe start did =
+      let wide : v.shares.columns ≡ p.family.columns = eaten.shares.columns ∙ sym lawful.family_columns in
+      let rows : w.agents ≡ v.shares.agents = start.agents ∙ sym family_rows in
+      let across : w.columns ≡ v.shares.columns = start.columns ∙ sym wide in
+      let weight : WeightedMatrix → ℕ = λ q. q.weight in
+      let adds_up : sum_by (λ (q : PieceValue). q.weight) pieces ≡ v.shares.denominator =
+      sym (sum_mapped weight (weighted w.agents w.columns) pieces) ∙ did.decompose.adds_up ∙ start.left in
+      let gives : All (λ (q : PieceValue). AreGives v.shares.agents v.shares.columns q.gives) pieces =
+      subst (λ c. All (λ (q : PieceValue). AreGives v.shares.agents c q.gives) pieces) across
+      (subst (λ a. All (λ (q : PieceValue). AreGives a w.columns q.gives) pieces) rows did.gives) in
+      let split : Decomposes v.shares.columns (cells_of p.family) v.shares.units v.shares.denominator (weighted_pieces w.agents w.columns pieces) =
+      decomposes_at p.family v.shares w (weighted_pieces w.agents w.columns pieces) start wide did.decompose in
+      let own : Decomposes v.shares.columns (cells_of p.family) v.shares.units v.shares.denominator (weighted_pieces v.shares.agents v.shares.columns pieces) =
+      subst (λ c. Decomposes v.shares.columns (cells_of p.family) v.shares.units v.shares.denominator (weighted_pieces v.shares.agents c pieces)) across
+      (subst (λ a. Decomposes v.shares.columns (cells_of p.family) v.shares.units v.shares.denominator (weighted_pieces a w.columns pieces)) rows split) in
+      record {
+        problem = lawful;
+        lottery = record {
+          shares = matrix;
+          rows = eaten_agents;
+          columns = eaten_columns;
+          priced = inl (record { named = ends_after p.objects; prices = y; given = refl; lists = lawful.lists_many; worths = certified.shape.lists ∙ lawful.lists_many });
+          weights = did.weights;
+          adds_up = adds_up;
+          gives = gives;
+        };
+        agents = refl;
+        columns = refl;
+        lists = refl;
+        moments = e;
+        prices = y;
+        table = eaten.table;
+        lowest = eaten.lowest;
+        rows = eaten.shares;
+        priced = refl;
+        recipe = recipe;
+        certified = certified;
+        pieces = subst (λ c. Decomposes c (cells_of p.family) v.shares.units v.shares.denominator (weighted_pieces v.shares.agents v.shares.columns pieces)) eaten.shares.columns own;
+      }
+
+  -- the same of the parts that calls give
+  pub solves_gathered : (agents columns lists : List (List ℕ)) (shares : ScaledValue) (pieces : List PieceValue) (w : PeelerValue) (f : FamilyValue) (x : ScaledValue)
+      → agents ≡ p.agents → columns ≡ with_none → lists ≡ p.lists → shares ≡ v.shares → f ≡ p.family → x ≡ v.shares
+      → IsScaledMatrix v.shares → IsRecipeOf p v.shares.denominator e y → IsStart f x w → ArePiecesOf w pieces
+      → Solves p (put_together agents columns shares lists (Some y) pieces)
+  solves_gathered agents columns lists shares pieces w f x of_agents of_columns of_lists of_shares of_family of_units matrix recipe start did =
+      let begun_with : IsStart p.family v.shares w = subst (λ (g : FamilyValue). IsStart g v.shares w) of_family (subst (λ (z : ScaledValue). IsStart f z w) of_units start) in
+      let same : put_together agents columns shares lists (Some y) pieces ≡ put_together p.agents with_none v.shares p.lists (Some y) pieces =
+      ap (λ a. put_together a columns shares lists (Some y) pieces) of_agents
+      ∙ ap (λ c. put_together p.agents c shares lists (Some y) pieces) of_columns
+      ∙ ap (λ z. put_together p.agents with_none z lists (Some y) pieces) of_shares
+      ∙ ap (λ l. put_together p.agents with_none v.shares l (Some y) pieces) of_lists in
+      subst (Solves p) (sym same) (solves_list pieces w matrix recipe begun_with did)
 
   -- ---- the same of what the calls of the problem and of what is eaten give
 

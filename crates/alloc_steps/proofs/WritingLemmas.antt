@@ -1,5 +1,5 @@
 -- A step that ends with a writer of a lottery.
-use Rattle.std.proofs.Common.{◌≡◌, ◌⊎◌, ap, inl, inr, refl, subst, sym, Result, Ok, Err}
+use Rattle.std.proofs.Common.{◌≡◌, ap, inl, inr, refl, subst, sym, Result, Ok, Err}
 use Rattle.std.specs.Prelude.{IsErrAnd}
 use Rattle.alloc_outcomes.specs.Answers.{Answer, text, HasText}
 use Rattle.alloc_outcomes.specs.Causes.{sink_cause}

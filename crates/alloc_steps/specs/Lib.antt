@@ -1,5 +1,6 @@
 pub mod Decompose
 pub mod Filling
+pub mod Generate
 pub mod Publishing
 pub mod ReadsBack
 pub mod Solutions

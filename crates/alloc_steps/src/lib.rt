@@ -24,6 +24,8 @@
 mod copies;
 mod counts;
 pub mod decompose;
+mod gathered;
+pub mod generate;
 mod laws;
 mod solution;
 pub mod solve;
@@ -34,6 +36,3 @@ pub use laws::{few_moments_fit, one_solution, solutions_read_back, solves_well};
 pub use solution::write_solution;
 pub use split::write_split;
 pub use written::write_peeled;
-
-#[cfg(test)]
-mod tests;

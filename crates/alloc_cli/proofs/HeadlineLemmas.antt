@@ -1,8 +1,7 @@
 -- From what a whole run does to the headline.
-use Rattle.std.proofs.Common.{◌≡◌, ◌⊎◌, ◌≤◌, ◌+◌, ℕ, List, [], ◌∷◌, ◌++◌, ◌∙◌, ap, sym, subst, refl, Option, Result, Ok, None, Some, inl, inr, length, map, take, arith, false}
+use Rattle.std.proofs.Common.{◌≡◌, ◌⊎◌, ◌+◌, ℕ, List, [], ◌∷◌, ◌∙◌, ap, subst, refl, Option, Result, Ok, None, Some, inl, inr, length, map, take, arith, false}
 use Rattle.std.specs.Prelude.{MatchOption, nat_lt}
 use Rattle.std.specs.Io.KnownBytes.{append_known}
-use Rattle.std.specs.Option.{option_map_or}
 use Rattle.std.proofs.lemmas.List.{take_all}
 use Rattle.device_core.specs.Held.{bytes_at}
 use Rattle.device_core.specs.declared.traits.Sink as Sink
@@ -15,7 +14,7 @@ use Rattle.alloc_cli.specs.Words.{command_of, file_count}
 use Rattle.alloc_cli.specs.declared.words.Command.{Command}
 use Rattle.alloc_cli.proofs.CompleteLemmas.{given_is}
 use Rattle.alloc_cli.proofs.OutcomesLemmas.{says}
-use Rattle.alloc_outcomes.specs.Answers.{Answer, refuse, text, Then}
+use Rattle.alloc_outcomes.specs.Answers.{Answer, Then}
 use Rattle.alloc_outcomes.specs.Limits.{file_limit}
 use Rattle.alloc_outcomes.specs.Sentences.{Counts, Run}
 use Rattle.alloc_outcomes.specs.Steps.{OutCount}

@@ -1,7 +1,7 @@
 -- Writers that come one after another, the first part of a list and the rest, and the texts of signed numbers.
 use Rattle.std.proofs.Common.{◌≡◌, ◌≤◌, ℕ, List, [], ◌∷◌, ◌++◌, length, drop, get_or, refl, sym, ap, ◌∙◌, arith, take, ◌-◌, length-drop, append-nil, append_assoc, true, false, subst, Result, Ok, Err}
 use Rattle.std.specs.List.{flat_map}
-use Rattle.std.specs.Prelude.{ℤ, pos, negsuc, decimal, nat_abs, IsErr, IsErrAnd}
+use Rattle.std.specs.Prelude.{ℤ, pos, negsuc, decimal, nat_abs, IsErrAnd}
 use Rattle.std.specs.Fmt.{signed_decimal}
 use Rattle.std.proofs.lemmas.Int.{to_z-of_z}
 use borrow.Author.Tests.{ltb-true}

@@ -5,7 +5,7 @@ use Rattle.alloc_cli.specs.Outcomes.{Says}
 use Rattle.alloc_cli.specs.Runs.{Held, names_of}
 use Rattle.alloc_cli.specs.Words.{command_of}
 use Rattle.alloc_cli.specs.declared.words.Command.{Command}
-use Rattle.alloc_outcomes.specs.Sentences.{Counts, Run}
+use Rattle.alloc_outcomes.specs.Sentences.{Counts}
 use Rattle.alloc_outcomes.specs.declared.cause.Cause.{Cause}
 
 -- where the words are a command's, the files tell what they hold, and the output tells what was written

@@ -4,6 +4,8 @@ use Rattle.std.specs.Prelude.{◌≡◌, ℕ, ◌+◌, List, [], ◌∷◌, leng
 use Rattle.std.specs.Option.{option_map_or}
 use Rattle.alloc_cli.specs.declared.words.Command.{Command}
 use Rattle.alloc_cli.specs.declared.words.Command.TheVariants as commands
+use Rattle.alloc_cli.specs.declared.words.NoFile.{NoFile}
+use Rattle.alloc_cli.specs.declared.words.NoFile.TheVariants as none
 use Rattle.alloc_cli.specs.declared.words.OneFile.{OneFile}
 use Rattle.alloc_cli.specs.declared.words.OneFile.TheVariants as one
 use Rattle.alloc_cli.specs.declared.words.ThreeFiles.{ThreeFiles}
@@ -14,22 +16,29 @@ use Rattle.alloc_audits.specs.Audit.{audit_meaning}
 use Rattle.alloc_audits.specs.AuditMatrix.{audit_matrix_meaning}
 use Rattle.alloc_draws.specs.Draw.{draw_meaning}
 use Rattle.alloc_draws.specs.Pick.{pick_meaning}
-use Rattle.alloc_outcomes.specs.Answers.{Answer, Then, on_one, on_three, on_two}
+use Rattle.alloc_draws.specs.Report.{report_meaning}
+use Rattle.alloc_outcomes.specs.Answers.{Answer, Then, on_none, on_one, on_three, on_two}
 use Rattle.alloc_outcomes.specs.Causes.{IsRefusal}
 use Rattle.alloc_outcomes.specs.Limits.{file_limit}
-use Rattle.alloc_outcomes.specs.Meanings.{OneMeaning, ThreeMeaning, TwoMeaning, said_on_one, said_on_three, said_on_two}
+use Rattle.alloc_outcomes.specs.Meanings.{NoneMeaning, OneMeaning, ThreeMeaning, TwoMeaning, said_on_none, said_on_one, said_on_three, said_on_two}
 use Rattle.alloc_outcomes.specs.Sentences.{Run}
 use Rattle.alloc_outcomes.specs.declared.cause.Cause.{Cause}
 use Rattle.alloc_outcomes.specs.declared.cause.Cause.TheVariants as causes
 use Rattle.alloc_steps.specs.Decompose.{decompose_meaning}
+use Rattle.alloc_steps.specs.Generate.{generate_meaning}
 use Rattle.alloc_steps.specs.Solve.{solve_meaning}
 use Rattle.alloc_tables.specs.Sets.{sets_meaning}
 use Rattle.alloc_tables.specs.Table.{table_meaning}
+
+-- what a command on no file means: a line for each
+abbrev pub meaning_of_none : NoFile → NoneMeaning
+meaning_of_none (none.Generate seed agents objects) = generate_meaning seed agents objects
 
 -- what a command on one file means: a line for each
 abbrev pub meaning_of_one : OneFile → OneMeaning
 meaning_of_one (one.Pick ticket) = pick_meaning ticket
 meaning_of_one (one.Draw seed) = draw_meaning seed
+meaning_of_one one.Report = report_meaning
 
 -- what a command on two files means: a line for each
 abbrev pub meaning_of_two : TwoFiles → TwoMeaning
@@ -45,12 +54,14 @@ meaning_of_three three.AuditMatrix = audit_matrix_meaning
 
 -- what a command answers once its files are short enough
 abbrev pub Answers : Command → List (List ℕ) → Answer → Type 0
+Answers (commands.Zero command) = on_none (meaning_of_none command).answers
 Answers (commands.One command) = on_one (meaning_of_one command).answers
 Answers (commands.Two command) = on_two (meaning_of_two command).answers
 Answers (commands.Three command) = on_three (meaning_of_three command).answers
 
 -- what is said of a run of a command, over what its files hold
 abbrev pub Says : Command → List (List ℕ) → Run → Type 0
+Says (commands.Zero command) = said_on_none (meaning_of_none command).says
 Says (commands.One command) = said_on_one (meaning_of_one command).says
 Says (commands.Two command) = said_on_two (meaning_of_two command).says
 Says (commands.Three command) = said_on_three (meaning_of_three command).says

@@ -1,18 +1,18 @@
 // A command with its files: they are loaded, measured and handed to the command's step.
 ghost use Rattle.std.specs.Prelude.{◌≡◌, ◌+◌, ◌≤◌, ◌<◌, map, length, string_bytes, All};
 ghost use Rattle.alloc_cli.specs.Load.{bytes_of, LoadsCount};
-ghost use Rattle.alloc_cli.specs.Outcomes.{meaning_of_one, meaning_of_three, meaning_of_two, Answers, Measures, Outcome};
+ghost use Rattle.alloc_cli.specs.Outcomes.{meaning_of_none, meaning_of_one, meaning_of_three, meaning_of_two, Answers, Measures, Outcome};
 ghost use Rattle.alloc_cli.specs.Top.{Answered};
-ghost use Rattle.alloc_cli.specs.Words.{file_count};
+ghost use Rattle.alloc_cli.specs.Words.{file_count, IsWithinLimits};
 ghost use Rattle.alloc_outcomes.specs.Limits.{file_limit};
 ghost use Rattle.alloc_outcomes.specs.Steps.{OutCounts, ShortCounts, Steps};
 
 use crate::load::{FILE_LIMIT, load_all};
-use crate::words::{Command, OneFile, ThreeFiles, TwoFiles};
+use crate::words::{Command, NoFile, OneFile, ThreeFiles, TwoFiles};
 use alloc_audits::{audit, audit_matrix};
-use alloc_draws::{draw, pick};
+use alloc_draws::{draw, pick, report};
 use alloc_outcomes::Cause;
-use alloc_steps::{decompose, solve};
+use alloc_steps::{decompose, generate, solve};
 use alloc_tables::{sets, table};
 use device_core::{Files, Sink};
 use std::alloc::Global;
@@ -30,6 +30,20 @@ fn check_lengths(given: &[Vec<u8>]) -> Result<(), Cause>
     Ok(())
 }
 
+// The step of a command on no file: one arm for each.
+fn step_none<K: Sink>(alloc: Global, command: NoFile, out: &mut K) -> Result<(), Cause>
+    requires { IsWithinLimits (Command.Zero command) }
+    ensures { Steps K.Sink (meaning_of_none command).answers out.old out.new result }
+{
+    match command {
+        NoFile::Generate {
+            seed,
+            agents,
+            objects,
+        } => generate::step(alloc, seed, agents, objects, out),
+    }
+}
+
 // The step of a command on one file: one arm for each.
 fn step_one<K: Sink>(
     alloc: Global,
@@ -42,6 +56,7 @@ fn step_one<K: Sink>(
     match command {
         OneFile::Pick { ticket } => pick::step(alloc, first, ticket, out),
         OneFile::Draw { seed } => draw::step(alloc, first, seed, out),
+        OneFile::Report => report::step(alloc, first, out),
     }
 }
 
@@ -92,10 +107,12 @@ fn step<K: Sink>(
     out: &mut K,
 ) -> Result<(), Cause>
     requires count { length given.now ≡ file_count command }
+    requires limits { IsWithinLimits command }
     requires short { All (λ bytes. length bytes ≤ file_limit) (bytes_of given.now) }
     ensures { Steps K.Sink (Answers command (bytes_of given.now)) out.old out.new result }
 {
     match command {
+        Command::Zero(none) => step_none(alloc, none, out),
         Command::One(one) => step_one(alloc, one, &given[0], out),
         Command::Two(two) => step_two(alloc, two, &given[0], &given[1], out),
         Command::Three(three) => { step_three(alloc, three, &given[0], &given[1], &given[2], out) }
@@ -109,7 +126,8 @@ fn decide<K: Sink>(
     given: &[Vec<u8>],
     out: &mut K,
 ) -> Result<(), Cause>
-    requires { length given.now ≡ file_count command }
+    requires count { length given.now ≡ file_count command }
+    requires limits { IsWithinLimits command }
     ensures { Steps K.Sink (Outcome command (bytes_of given.now)) out.old out.new result }
 {
     check_lengths(given)?;
@@ -124,7 +142,8 @@ pub fn answer<F: Files, K: Sink>(
     files: &mut F,
     out: &mut K,
 ) -> Result<(), Cause>
-    requires { file_count command + 1 ≤ length words.now }
+    requires files { file_count command + 1 ≤ length words.now }
+    requires limits { IsWithinLimits command }
     ensures answered { Answered K.Sink (F.held files.old) (map string_bytes words.now) command
         out.old out.new result }
     ensures files { LoadsCount (F.faults files.old) (F.faults files.new) result }

@@ -1,9 +1,20 @@
 // The forms of the words.
 ghost use Rattle.std.specs.Prelude.{◌≡◌, ◌+◌, ◌≤◌, map, string_bytes, length, IfSome};
-ghost use Rattle.alloc_cli.specs.Words.{command_of, file_count, form_of_three, form_of_two, one_of, three_of, two_of};
+ghost use Rattle.alloc_cli.specs.Words.{alone_of, command_of, file_count, form_of_one, form_of_three, form_of_two, generate_of, none_of, one_of, size_of, three_of, two_of, IsWithinLimits};
 
 use crate::seed::read_seed;
 use table_text::read_count;
+
+/// A command on no file.
+#[derive(Clone, Copy, Debug, PartialEq, Eq)]
+pub enum NoFile {
+    /// `generate SEED AGENTS OBJECTS`, of 1 to 1,000 agents and 1 to 200 objects
+    Generate {
+        seed: [u8; 32],
+        agents: u32,
+        objects: u32,
+    },
+}
 
 /// A command on one file.
 #[derive(Clone, Copy, Debug, PartialEq, Eq)]
@@ -12,6 +23,8 @@ pub enum OneFile {
     Pick { ticket: u128 },
     /// `draw LOTTERY SEED`
     Draw { seed: [u8; 32] },
+    /// `report LOTTERY`
+    Report,
 }
 
 /// A command on two files.
@@ -39,6 +52,7 @@ pub enum ThreeFiles {
 /// What the words ask for. The files of a command are the words after its name, in order.
 #[derive(Clone, Copy, Debug, PartialEq, Eq)]
 pub enum Command {
+    Zero(NoFile),
     One(OneFile),
     Two(TwoFiles),
     Three(ThreeFiles),
@@ -50,10 +64,56 @@ impl Command {
         ensures { result ≡ file_count self }
     {
         match self {
+            Command::Zero(_) => 0,
             Command::One(_) => 1,
             Command::Two(_) => 2,
             Command::Three(_) => 3,
         }
+    }
+}
+
+// A number of agents or of objects, from 1 to this limit.
+fn read_size(word: &str, limit: u32) -> Option<u32>
+    ensures { result ≡ size_of limit word.now }
+{
+    let size = read_count(word.as_bytes())?;
+    if size < 1 || size > limit as u128 {
+        return None;
+    }
+    Some(size as u32)
+}
+
+// `generate`, by the words after its name.
+fn parse_generate(seed: &str, agents: &str, objects: &str) -> Option<NoFile>
+    ensures { result ≡ generate_of seed.now agents.now objects.now }
+{
+    let seed = read_seed(seed)?;
+    let agents = read_size(agents, 1_000)?;
+    let objects = read_size(objects, 200)?;
+    Some(NoFile::Generate {
+        seed,
+        agents,
+        objects,
+    })
+}
+
+// The command on no file of this name, and of the words after it.
+fn parse_none(name: &str, first: &str, second: &str, third: &str) -> Option<NoFile>
+    ensures { result ≡ none_of name.now first.now second.now third.now }
+{
+    match name {
+        "generate" => parse_generate(first, second, third),
+        _ => None,
+    }
+}
+
+// The command on one file alone of this name.
+fn parse_alone(name: &str) -> Option<OneFile>
+    ensures { result ≡ alone_of name.now }
+{
+    match name {
+        "report" => Some(OneFile::Report),
+        _ => None,
     }
 }
 
@@ -98,6 +158,13 @@ fn parse_three(name: &str) -> Option<ThreeFiles>
     }
 }
 
+// The command of this name and one more word.
+fn parse_with_one(name: &str) -> Option<Command>
+    ensures { result ≡ form_of_one name.now }
+{
+    Some(Command::One(parse_alone(name)?))
+}
+
 // The command of this name and two more words.
 fn parse_with_two(name: &str, second: &str) -> Option<Command>
     ensures { result ≡ form_of_two name.now second.now }
@@ -109,20 +176,32 @@ fn parse_with_two(name: &str, second: &str) -> Option<Command>
 }
 
 // The command of this name and three more words.
-fn parse_with_three(name: &str) -> Option<Command>
-    ensures { result ≡ form_of_three name.now }
+fn parse_with_three(name: &str, first: &str, second: &str, third: &str) -> Option<Command>
+    ensures { result ≡ form_of_three name.now first.now second.now third.now }
 {
-    Some(Command::Three(parse_three(name)?))
+    match parse_three(name) {
+        Some(command) => Some(Command::Three(command)),
+        None => Some(Command::Zero(parse_none(name, first, second, third)?)),
+    }
 }
 
 /// The command that the words are a form of.
 pub fn parse(words: &[String]) -> Option<Command>
     ensures form { result ≡ command_of (map string_bytes words.now) }
     ensures files { IfSome result (λ command. file_count command + 1 ≤ length words.now) }
+    ensures limits { IfSome result IsWithinLimits }
 {
     match words {
+        [name, _] => parse_with_one(name.as_str()),
         [name, _, second] => parse_with_two(name.as_str(), second.as_str()),
-        [name, _, _, _] => parse_with_three(name.as_str()),
+        [name, first, second, third] => {
+            parse_with_three(
+                name.as_str(),
+                first.as_str(),
+                second.as_str(),
+                third.as_str(),
+            )
+        }
         _ => None,
     }
 }

@@ -13,11 +13,15 @@ mod devices;
 #[cfg(test)]
 mod draw;
 #[cfg(test)]
+mod generate;
+#[cfg(test)]
 mod input_faults;
 #[cfg(test)]
 mod lottery_faults;
 #[cfg(test)]
 mod pick;
+#[cfg(test)]
+mod report;
 #[cfg(test)]
 mod runs;
 #[cfg(test)]

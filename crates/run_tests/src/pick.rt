@@ -160,22 +160,6 @@ fn boundary_of_tickets(rt: HostRuntime) -> Result<(), Fail> {
 }
 
 #[test]
-fn truncated_lottery(rt: HostRuntime) -> Result<(), Fail> {
-    let text = PRICED_THREE.as_bytes();
-    let whole = text.len();
-    assert!(rt; whole > 0);
-    for cut in 0..whole - 1 {
-        let seen = run_on(rt.alloc(), &["pick", "lottery.csv", "0"], &text[..cut])?;
-        assert!(rt; matches!(seen.cause, Cause::Lottery(_)), "cut at {cut}");
-        assert_eq!(rt; seen.status, 3, "cut at {cut}");
-        assert!(rt; seen.out.is_empty(), "cut at {cut}");
-    }
-    let picked = "ticket,0,6\npiece,1,1\ngive,x,a,1\ngive,y,b,1\ngive,z,none,1\nend,3\n";
-    check_pick(&rt, &text[..whole - 1], "0", 0, picked, "")?;
-    Ok(())
-}
-
-#[test]
 fn weights_dont_add(rt: HostRuntime) -> Result<(), Fail> {
     let more = with_record(rt.alloc(), PRICED_THREE, 19, Some(b"piece,1,2"))?;
     check_refused(&rt, &more, "lottery: record 31 kind 6\n")?;

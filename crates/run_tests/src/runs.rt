@@ -106,6 +106,11 @@ fn run_over(
     })
 }
 
+// A run of these words over no files.
+pub(crate) fn run_alone(alloc: Global, words: &[&str]) -> Result<Seen, AllocError> {
+    run_over(alloc, words, Vec::new(alloc))
+}
+
 // A run of this command over three files.
 pub(crate) fn run_on_three(
     alloc: Global,

@@ -15,7 +15,7 @@ fn cause_without_files(alloc: Global, words: &[&str]) -> Result<Cause, AllocErro
 
 #[test]
 fn usage_words(rt: HostRuntime) -> Result<(), Fail> {
-    let forms: [&[&str]; 17] = [
+    let forms: [&[&str]; 24] = [
         &["decompose", "matrix.csv"],
         &["solve", "prefs.csv"],
         &["table", "prefs.csv"],
@@ -32,6 +32,13 @@ fn usage_words(rt: HostRuntime) -> Result<(), Fail> {
         &["Pick", "lottery.csv", "1"],
         &["draw", "lottery.csv"],
         &["draw", "lottery.csv", "1"],
+        &["report"],
+        &["report", "lottery.csv", "1"],
+        &["Report", "lottery.csv"],
+        &["audit", "lottery.csv"],
+        &["generate"],
+        &["generate", "1", "1"],
+        &["generate", "1", "1", "1"],
         &["--help"],
     ];
     for words in forms {

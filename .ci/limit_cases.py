@@ -5,7 +5,8 @@ limit_cases.py write: writes the inputs into the current folder, and beside them
     lists.csv, quotas.csv    1,000 agents, 200 objects, and 400 sets with 300,000 cells; sets.csv and table.csv are due, and of
         their lottery head.csv, which is all before the first piece
     shares.csv, rows.csv     a matrix of 1,000 by 200 shares, and 1,000 sets with 420,000 cells for it
-    lottery.csv              a lottery of 67,108,864 bytes; first.csv and last.csv are due for its first and last ticket
+    lottery.csv              a lottery of 67,108,864 bytes; first.csv and last.csv are due for its first and last ticket, and
+        summary.json is its summary
 limit_cases.py check: reads a lottery for shares.csv and rows.csv from standard input, and ends with 0 where its pieces add up to
     its rows and each of them keeps every quota; else it says what is wrong and ends with 1.
 limit_cases.py solved: the same of a lottery for lists.csv and quotas.csv.
@@ -153,6 +154,10 @@ def write_lottery():
             file.writelines(f"{record}\n" for record in piece(number, names, places))
         file.write(f"end,{pieces}\n")
         file.write("\n" * (FILE_LIMIT - file.tell()))
+    expected = ",".join(f'"{place}":"{10 * AGENTS}"' for place in places)
+    weights = '"greatest_weight":"1","least_weight":"1"'
+    sizes = f'"agents":{AGENTS},"columns":{OBJECTS},"denominator":"{pieces}"'
+    write("summary.json", [f'{{{sizes},"expected":{{{expected}}},{weights},"pieces":{pieces},"priced":false}}'])
     for name, number in ("first.csv", 1), ("last.csv", pieces):
         write(name, [f"ticket,{number - 1},{pieces}", *piece(number, names, places), f"end,{AGENTS}"])
 

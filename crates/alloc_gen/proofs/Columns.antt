@@ -1,8 +1,8 @@
 -- Sets of one column: the cells that they hold, that they are lawful, and that none of two crosses the other.
-use Rattle.std.proofs.Common.{◌≡◌, ℕ, ◌+◌, ◌*◌, ◌<◌, ◌≤◌, ◌⊎◌, ◌∙◌, true, false, not, ◌&&◌, List, length, get_or, ap, sym, refl, subst, inl, inr, arith}
+use Rattle.std.proofs.Common.{◌≡◌, ℕ, ◌+◌, ◌*◌, ◌<◌, ◌≤◌, ◌⊎◌, ◌∙◌, true, false, List, length, get_or, ap, sym, refl, subst, inl, inr, arith}
 use Rattle.std.specs.Int.{div_ceil}
 use Rattle.std.specs.List.{range_with_len}
-use Rattle.std.proofs.lemmas.Bool.{and_right, both_ways, cases_eq, false_from_ne_true}
+use Rattle.std.proofs.lemmas.Bool.{both_ways, cases_eq, false_from_ne_true}
 use Rattle.std.proofs.lemmas.List.Elements.{All-map}
 use Rattle.std.proofs.lemmas.List.Folds.{list_any_none}
 use Rattle.std.proofs.lemmas.List.FromFn.{length-map-range_with_len, get_or-map-range_with_len}
@@ -10,7 +10,7 @@ use Rattle.std.proofs.Math.Nat.{mul-le-mul_left, mul-lt-mul_of_pos_left}
 use Rattle.definitions.specs.declared.Cell.{Cell}
 use Rattle.definitions.specs.Sets.{IsInRange, IsQuotaSet, cell_of, crosses, holds, is_subset, overlaps, same_cell}
 use Rattle.definitions.specs.Values.{IsStatedSet}
-use Rattle.definitions.proofs.Members.{all_from_members, cell_test, crosses_self, member_at, member_place}
+use Rattle.definitions.proofs.Members.{all_from_members, cell_test, around_apart, crosses_self, member_at, member_place, within_apart}
 use Rattle.alloc_gen.specs.MadeSets.{column_cells, column_part}
 
 -- ---- the cells of a column
@@ -67,14 +67,6 @@ part_is_stated count step ceiling k objects within = record {
 
 -- ---- sets that don't cross
 
--- a set doesn't cross one that it lies within, nor one that lies within it
-within_other : (a b : List Cell) → is_subset a b ≡ true → crosses a b ≡ true → ⊥
-within_other a b sub cross = both_ways _ (and_right (overlaps a b) false refl) (rw sub at cross)
-
-around_other : (a b : List Cell) → is_subset b a ≡ true → crosses a b ≡ true → ⊥
-around_other a b sub cross =
-    both_ways _ (and_right (overlaps a b) (not (is_subset a b) && false) (and_right (not (is_subset a b)) false refl)) (rw sub at cross)
-
 -- two columns have no common cell
 columns_apart : (count step k many wide l : ℕ) → (k ≡ l → ⊥) → overlaps (column_cells count step k) (column_cells many wide l) ≡ false
 columns_apart count step k many wide l differ =
@@ -99,8 +91,8 @@ half_within n k = part_within n (div_ceil n 2) 2 k (omega arith)
 
 one_column : (n k : ℕ) (a b : List Cell) → IsOf n k a → IsOf n k b → crosses a b ≡ true → ⊥
 one_column n k a b (inl e) (inl f) cross = both_ways _ (crosses_self b) (rw (e ∙ sym f) at cross)
-one_column n k a b (inl e) (inr f) cross = around_other a b (rw (e, f) (half_within n k)) cross
-one_column n k a b (inr e) (inl f) cross = within_other a b (rw (e, f) (half_within n k)) cross
+one_column n k a b (inl e) (inr f) cross = both_ways _ (around_apart a b (rw (e, f) (half_within n k))) cross
+one_column n k a b (inr e) (inl f) cross = both_ways _ (within_apart a b (rw (e, f) (half_within n k))) cross
 one_column n k a b (inr e) (inr f) cross = both_ways _ (crosses_self b) (rw (e ∙ sym f) at cross)
 
 two_columns : (n k l : ℕ) (a b : List Cell) → (k ≡ l → ⊥) → IsOf n k a → IsOf n l b → overlaps a b ≡ false

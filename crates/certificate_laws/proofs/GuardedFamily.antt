@@ -8,7 +8,7 @@ use Rattle.definitions.specs.declared.Cell.{Cell}
 use Rattle.definitions.specs.Sets.{cell_of, same_cell, holds, overlaps, is_subset, crosses, row_cells, SetValue, ScaledValue}
 use Rattle.definitions.specs.Values.{ProblemValue, column_count, list_at}
 use Rattle.definitions.specs.Fairness.{prefix_set}
-use Rattle.definitions.proofs.Members.{cell_test, all_from_members}
+use Rattle.definitions.proofs.Members.{cell_test, all_from_members, around_apart, within_apart}
 use Rattle.definitions.proofs.Cells.{row_member}
 
 -- ---- what crosses
@@ -26,20 +26,10 @@ apart_sets a b h e = common a (λ c m. m) (and_parts (overlaps a b) (not (is_sub
 
 -- nor do sets of which the first lies within the second, or the second within the first
 within_first : (a b : List Cell) → ((c : Cell) → holds a c ≡ true → holds b c ≡ true) → crosses a b ≡ true → ⊥
-within_first a b h e =
-    let parts = and_parts (overlaps a b) (not (is_subset a b) && not (is_subset b a)) e in
-    let sub : is_subset a b ≡ true = all_from_members same_cell cell_test (holds b) a h in
-    let no = and_parts (not (is_subset a b)) (not (is_subset b a)) parts.1 in
-    let f : not (is_subset a b) ≡ false = ap not sub in
-    both_ways (not (is_subset a b)) f no.0
+within_first a b h e = both_ways (crosses a b) (within_apart a b (all_from_members same_cell cell_test (holds b) a h)) e
 
 within_second : (a b : List Cell) → ((c : Cell) → holds b c ≡ true → holds a c ≡ true) → crosses a b ≡ true → ⊥
-within_second a b h e =
-    let parts = and_parts (overlaps a b) (not (is_subset a b) && not (is_subset b a)) e in
-    let sub : is_subset b a ≡ true = all_from_members same_cell cell_test (holds a) b h in
-    let no = and_parts (not (is_subset a b)) (not (is_subset b a)) parts.1 in
-    let f : not (is_subset b a) ≡ false = ap not sub in
-    both_ways (not (is_subset b a)) f no.1
+within_second a b h e = both_ways (crosses a b) (around_apart a b (all_from_members same_cell cell_test (holds a) b h)) e
 
 -- ---- first places
 

@@ -1,11 +1,11 @@
 -- Families and problems: sets by their numbers, and the two sides of a bihierarchy.
-use Rattle.std.proofs.Common.{◌≡◌, ℕ, ◌+◌, ◌-◌, ◌⊎◌, ◌∙◌, Bool, true, ◌||◌, ◌&&◌, [], length, get_or, sym, ap, inl, inr, arith, All, length-drop}
+use Rattle.std.proofs.Common.{◌≡◌, ℕ, ◌+◌, ◌-◌, ◌⊎◌, ◌∙◌, Bool, true, ◌||◌, ◌&&◌, [], length, get_or, sym, ap, inl, inr, arith, All, length-drop, length-take}
 use Rattle.std.specs.Prelude.{nat_lt, ◌==◌}
 use Rattle.std.specs.List.{enumerate_from}
 use Rattle.std.proofs.lemmas.Bool.{or_cases, or_left, or_right, and_parts, and_from, ltb-true, lt-ltb, eqb-true, eq-eqb}
 use Rattle.definitions.specs.Sets.{SetValue, FamilyValue, IsQuotaSet, cells_of, sides_of, IsNumberOf, IsSet, set_cells, set_side, set_size, NoCrossing, IsHierarchy, IsBihierarchy, row_cells}
 use Rattle.definitions.specs.Hierarchies.{IsLower}
-use Rattle.definitions.specs.Values.{ProblemValue, IsProblem, row_sets, column_count}
+use Rattle.definitions.specs.Values.{ProblemValue, IsProblem, row_sets, column_count, stated_sets}
 use Rattle.std.proofs.lemmas.Option.{unwrap_or-slice_get}
 use Rattle.std.proofs.lemmas.List.{get_or-map, length-map}
 use Rattle.std.proofs.lemmas.List.FromFn.{length-enumerate_from}
@@ -91,3 +91,7 @@ sets_of_problem p h =
     let rows : length p.family.sets - p.stated ≡ length (row_sets (column_count p) p.demands) = sym (length-drop p.stated p.family.sets) ∙ ap length h.rows in
     let many : length (row_sets (column_count p) p.demands) ≡ length p.demands = length-map (enumerate_from 0 p.demands) (row_set (column_count p)) ∙ length-enumerate_from 0 p.demands in
     omega (arith, rows, many, h.demands_many, h.agents_some)
+
+-- the stated sets are the first of the family
+pub stated_count : (p : ProblemValue) → IsProblem p → length (stated_sets p) ≡ p.stated
+stated_count p h = omega (arith, length-take p.stated p.family.sets, sets_of_problem p h)

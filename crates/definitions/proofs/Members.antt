@@ -313,8 +313,14 @@ crosses_turned a b da db =
     ∙ ap (λ m. nat_lt 0 m && (nat_lt m (length b) && nat_lt m (length a))) (common_turned same_cell cell_test a b da db)
     ∙ sym (crosses_by_count b a db da)
 
+-- a set doesn't cross one that it lies within, nor one that lies within it
+pub within_apart : (a b : List Cell) → is_subset a b ≡ true → crosses a b ≡ false
+within_apart a b within = rw within (and_right (overlaps a b) false refl)
+
+pub around_apart : (a b : List Cell) → is_subset b a ≡ true → crosses a b ≡ false
+around_apart a b within =
+    rw within (and_right (overlaps a b) (not (is_subset a b) && false) (and_right (not (is_subset a b)) false refl))
+
 -- no set crosses itself
 pub crosses_self : (a : List Cell) → crosses a a ≡ false
-crosses_self a =
-    let within : is_subset a a ≡ true = all_from_members same_cell cell_test (holds a) a (λ x m. m) in
-    rw within (and_right (overlaps a a) false refl)
+crosses_self a = within_apart a a (all_from_members same_cell cell_test (holds a) a (λ x m. m))

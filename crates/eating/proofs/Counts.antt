@@ -1,42 +1,15 @@
 -- How many cells are capped.
 use Rattle.std.proofs.Common.{◌≡◌, ℕ, suc, zero, ◌+◌, ◌-◌, ◌*◌, ◌<◌, ◌≤◌, ◌++◌, List, [], ◌∷◌, Bool, true, false, cond, Some, length, map, take, get_or, replicate, refl, ap, sym, ◌∙◌, arith}
-use Rattle.std.specs.Prelude.{sum_by, nat_eq, nat_le, slice_get}
-use Rattle.std.specs.List.{range_with_len}
-use Rattle.std.specs.Set.{is_member}
+use Rattle.std.specs.Prelude.{nat_le, slice_get}
 use Rattle.std.proofs.lemmas.Option.{get_or_from_slice_get, slice_get_within}
 use Rattle.std.proofs.lemmas.List.{replicate-append-replicate, map-append, length-map, take_more, take_all, length-append, length-take}
-use Rattle.std.proofs.lemmas.List.Sums.{sum_by-cons, sum_by_more, sum_by-take-le, count_by-le-length}
-use Rattle.std.proofs.lemmas.List.FromFn.{length-range_with_len}
+use Rattle.std.proofs.lemmas.List.Sums.{sum_by-cons, sum_by_more, sum_by-take-le}
 use Rattle.definitions.specs.Sets.{SetValue}
-use Rattle.definitions.specs.Values.{Limit, Agent, ProblemValue, IsProblem, IsListUpTo, but_last, capped_limits, market_of, limits_of, stated_sets, list_at, demand_at}
-use Rattle.definitions.proofs.Members.{number_test, member_place}
-use Rattle.definitions.proofs.Problems.{agent_of, list_lawful}
+use Rattle.definitions.specs.Values.{Limit, Agent, ProblemValue, IsProblem, but_last, capped_limits, market_of, limits_of, stated_sets, list_at, demand_at}
+use Rattle.definitions.proofs.Problems.{agent_of, list_short}
 use Rattle.eating_laws.proofs.Limits.{agent_count}
-use Rattle.side_laws.proofs.Members.{sum_within}
-use Rattle.definitions.proofs.Ranges.{member_of_range, distinct_range}
 use Rattle.eating.specs.Caps.{capped_count, caps_before}
 use Rattle.eating.proofs.Capped.{before_last_length}
-
-ones : (xs : List ℕ) → sum_by (λ (x : ℕ). 1) xs ≡ length xs
-ones [] = refl
-ones (x ∷ xs) = omega (arith, sum_by-cons (λ (x : ℕ). 1) x xs, ones xs)
-
--- a list of distinct columns up to `none` is not longer than there are columns
-short : (none : ℕ) (list : List ℕ) → IsListUpTo none list → length list ≤ none + 1
-short none list h =
-    let columns = range_with_len 0 (none + 1) in
-    let whole = sum_within nat_eq number_test (λ (x : ℕ). 1) list columns h.apart (distinct_range 0 (none + 1)) (λ x m. known x (member_place nat_eq number_test x list m)) in
-    omega (arith, ones list, whole, count_by-le-length (is_member nat_eq list) columns, length-range_with_len 0 (none + 1))
-  where
-    known : (x : ℕ) → (k : ℕ) × (k < length list) × ((d : ℕ) → get_or list k d ≡ x) → is_member nat_eq (range_with_len 0 (none + 1)) x ≡ true
-    known x (k, l, e) = (let w = h.known k 0 l in member_of_range 0 (none + 1) x (omega arith) (omega (arith, w, e 0)))
-
--- a list has from 1 to 201 columns
-pub list_short : (p : ProblemValue) (i : ℕ) → IsProblem p → i < length p.agents → (1 ≤ length (list_at p i)) × (length (list_at p i) ≤ 201)
-list_short p i h l =
-    let lawful = list_lawful p i h l in
-    let some = slice_get_within (list_at p i) (length (list_at p i) - 1) (length p.objects) lawful.last in
-    (omega (arith, some), (let few = short (length p.objects) (list_at p i) lawful in omega (arith, few, h.objects_limit)))
 
 pub capped_few : (p : ProblemValue) (i : ℕ) → IsProblem p → i < length p.agents → capped_count (demand_at p i) (list_at p i) ≤ 200
 capped_few p i h l = pick (nat_le 2 (demand_at p i)) (list_short p i h l).1

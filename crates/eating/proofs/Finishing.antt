@@ -27,7 +27,7 @@ use Rattle.eating.specs.Eaten.{EatenValue, IsEatenValue}
 use Rattle.eating.specs.Answers.{IsEatenBy, cap_at}
 use Rattle.eating.proofs.Capped.{cap_found, IsCapAt}
 use Rattle.eating.proofs.Counts.{capped_length, capped_ones}
-use Rattle.eating.proofs.Limits.{stated_count}
+use Rattle.definitions.proofs.Families.{stated_count}
 
 module _ (p : ProblemValue) (h : IsProblem p) where
   abbrev stated_limits : List Limit

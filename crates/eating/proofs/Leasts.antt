@@ -2,14 +2,14 @@
 use Rattle.std.proofs.Common.{◌≡◌, ℕ, suc, zero, ◌+◌, ◌-◌, ◌<◌, ◌≤◌, List, [], ◌∷◌, Bool, true, false, cond, length, get_or, drop, refl, ap, sym, ◌∙◌, arith, inl, inr, subst, Option}
 use Rattle.std.specs.Prelude.{min, nat_le, count_by, ◌==◌, slice_get}
 use Rattle.std.specs.Option.{option_map_or}
-use Rattle.std.proofs.lemmas.Bool.{cases_lt, cases_Bool, le-leb, lt-leb, eqb-true, eq-eqb}
+use Rattle.std.proofs.lemmas.Bool.{cases_lt, cases_Bool, le-leb, lt-leb, eqb-true}
 use Rattle.std.proofs.lemmas.List.{at_drop_more, at_drop_all, get_or-drop, length-drop}
-use Rattle.std.proofs.lemmas.List.Sums.{sum_by-cons, get_or-le-sum_by}
+use Rattle.std.proofs.lemmas.List.Sums.{sum_by-cons}
 use Rattle.definitions.specs.Sets.{cell_of, holds}
 use Rattle.definitions.specs.Values.{Limit, Market}
-use Rattle.definitions.specs.Eating.{full_at, moment_at, limit_cells}
+use Rattle.definitions.specs.Eating.{full_at, moment_at}
 use Rattle.eating_laws.proofs.Full.{cells_at, full_le, full_below, full_from}
-use Rattle.eating_laws.proofs.Holders.{IsHolders, least_of}
+use Rattle.eating_laws.proofs.Holders.{IsHolders, holder_holds, least_of}
 use Rattle.eating.specs.Plan.{least_from}
 
 pub least_none : (D : ℕ) (e : List ℕ) → least_of D e [] ≡ D
@@ -102,10 +102,6 @@ later_cells limits first j = ap (λ (o : Option Limit). option_map_or (λ (s : L
         none k = refl
     at (s ∷ limits) (suc first) j = at limits first j ∙ ap (slice_get (s ∷ limits)) (let e : suc (first + j) ≡ suc first + j = omega arith in e)
 
-bit_of : (b : Bool) → 0 < cond {A = ℕ} b 1 0 → b ≡ true
-bit_of true k = refl
-bit_of false k = absurd (omega arith)
-
 -- over the holders of a cell it is the moment from which the later limits are full there
 pub full_from_holders : (market : Market) (D first : ℕ) (e holders : List ℕ) (i a : ℕ) → length e ≡ length market.limits → IsHolders market i a holders
     → least_from D e first holders ≡ full_at D (drop first market.limits) (drop first e) i a
@@ -121,13 +117,6 @@ full_from_holders market D first e holders i a size h =
     (λ k l f. low k l f) in
     omega arith
   where
-    held : (k : ℕ) → k < length holders → holds (limit_cells market (get_or holders k 0)) (cell_of i a) ≡ true
-    held k l =
-        let j = get_or holders k 0 in
-        let self = ap {B = ℕ} (λ b. cond b 1 0) (eq-eqb j j refl) in
-        let there : cond {A = ℕ} (j == j) 1 0 ≤ count_by (λ x. x == j) holders = get_or-le-sum_by (λ x. cond (x == j) 1 0) holders k 0 l in
-        bit_of (holds (limit_cells market j) (cell_of i a)) (omega (arith, self, there, h.once j (h.inside k 0 l)))
-
     low : (k : ℕ) → k < length holders → first ≤ get_or holders k 0 → full_at D (drop first market.limits) (drop first e) i a ≤ moment_at e (get_or holders k 0)
     low k l f =
         let j = get_or holders k 0 in
@@ -135,4 +124,4 @@ full_from_holders market D first e holders i a size h =
         let inside : j < length market.limits = h.inside k 0 l in
         subst (λ n. full_at D (drop first market.limits) (drop first e) i a ≤ n) (get_or-drop first e (j - first) 0 ∙ ap (moment_at e) place)
         (full_below D (drop first market.limits) (drop first e) i a (j - first) (omega (arith, length-drop first e, size))
-        (ap (λ cells. holds cells (cell_of i a)) (later_cells market.limits first (j - first) ∙ ap (cells_at market.limits) place) ∙ held k l))
+        (ap (λ cells. holds cells (cell_of i a)) (later_cells market.limits first (j - first) ∙ ap (cells_at market.limits) place) ∙ holder_holds market holders i a h k l))

@@ -1,5 +1,5 @@
 -- The limits that are noted at a place are those that hold its cell.
-use Rattle.std.proofs.Common.{◌≡◌, ◌≢◌, ℕ, suc, zero, ◌+◌, ◌-◌, ◌<◌, ◌≤◌, ◌++◌, List, [], ◌∷◌, Bool, true, false, cond, length, map, take, get_or, refl, ap, sym, ◌∙◌, subst, arith, inl, inr, length-take, length-append}
+use Rattle.std.proofs.Common.{◌≡◌, ◌≢◌, ℕ, suc, zero, ◌+◌, ◌-◌, ◌<◌, ◌≤◌, ◌++◌, List, [], ◌∷◌, Bool, true, false, cond, length, map, take, get_or, refl, ap, sym, ◌∙◌, subst, arith, inl, inr, length-append}
 use Rattle.std.specs.Prelude.{nat_eq, nat_le, nat_lt, slice_index, count_by, sum_by, ◌==◌, All}
 use Rattle.std.specs.List.{AllByRecursion}
 use Rattle.std.specs.Set.{is_member}
@@ -12,7 +12,7 @@ use Rattle.definitions.specs.Trees.{TreesValue, AreTreesOf}
 use Rattle.definitions.specs.Values.{Limit, Agent, ProblemValue, IsProblem, capped_limits, market_of, limits_of, stated_sets, list_at, demand_at}
 use Rattle.definitions.specs.Eating.{limit_cells}
 use Rattle.definitions.proofs.Members.{number_test, member_at}
-use Rattle.definitions.proofs.Families.{sets_of_problem, no_set, cells_of_set}
+use Rattle.definitions.proofs.Families.{sets_of_problem, no_set, cells_of_set, stated_count}
 use Rattle.definitions.proofs.Sums.{single}
 use Rattle.eating_laws.proofs.Full.{cells_at}
 use Rattle.eating_laws.proofs.Holders.{IsHolders}
@@ -48,14 +48,11 @@ stated_cells (s ∷ sets) zero l = refl
 stated_cells (s ∷ sets) (suc j) l = stated_cells sets j (omega arith)
 
 module _ (p : ProblemValue) (h : IsProblem p) where
-  pub stated_count : length (stated_sets p) ≡ p.stated
-  stated_count = (let many = sets_of_problem p h in omega (arith, many, length-take p.stated p.family.sets))
-
   abbrev stated_limits : List Limit
   stated_limits = map (λ (s : SetValue). record { ceiling = s.ceiling; cells = s.cells }) (stated_sets p)
 
   stated_many : length stated_limits ≡ p.stated
-  stated_many = length-map (stated_sets p) (λ (s : SetValue). record { ceiling = s.ceiling; cells = s.cells }) ∙ stated_count
+  stated_many = length-map (stated_sets p) (λ (s : SetValue). record { ceiling = s.ceiling; cells = s.cells }) ∙ stated_count p h
 
   -- the number of limits
   pub limits_many : length (limits_of p) ≡ p.stated + caps_before (market_of p).agents
@@ -68,7 +65,7 @@ module _ (p : ProblemValue) (h : IsProblem p) where
       let many = sets_of_problem p h in
       let known : IsSet p.family (j + 1) = (omega arith, omega (arith, many)) in
       let place : j + 1 - 1 ≡ j = omega arith in
-      cells_left stated_limits (capped_limits 0 (market_of p).agents) j (omega (arith, l, stated_many)) ∙ stated_cells (stated_sets p) j (omega (arith, l, stated_count))
+      cells_left stated_limits (capped_limits 0 (market_of p).agents) j (omega (arith, l, stated_many)) ∙ stated_cells (stated_sets p) j (omega (arith, l, stated_count p h))
       ∙ ap (λ (s : SetValue). s.cells) (get_or-take p.stated p.family.sets j no_set l)
       ∙ ap (λ n. (get_or p.family.sets n no_set).cells) (sym place)
       ∙ sym (cells_of_set p.family (j + 1) known no_set)

@@ -15,12 +15,11 @@ use Rattle.definitions.specs.Trees.{TreesValue, AreTreesOf}
 use Rattle.definitions.specs.Values.{Limit, Agent, Market, ProblemValue, IsProblem, market_of, limits_of, list_at, demand_at}
 use Rattle.definitions.specs.Eating.{limit_cells}
 use Rattle.eating_laws.proofs.Holders.{IsHolders}
-use Rattle.definitions.proofs.Problems.{list_lawful}
+use Rattle.definitions.proofs.Problems.{list_lawful, list_short}
 use Rattle.eating_laws.proofs.Limits.{agent_count, none_free, demand_total}
 use Rattle.eating.specs.Caps.{capped_count, caps_before}
 use Rattle.eating.specs.Holders.{holders_in, made_holders}
 use Rattle.eating.specs.Plan.{LineValue, holders_at, IsLine, IsLineOf, AreLinesOf}
-use Rattle.eating.proofs.Counts.{list_short}
 use Rattle.eating.proofs.Limits.{limits_right}
 
 read_made : (f : ℕ → List ℕ) (n k : ℕ) → k < n → unwrap_or (slice_get (map f (range_with_len 0 n)) k) [] ≡ f k

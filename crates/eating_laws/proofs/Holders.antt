@@ -13,6 +13,19 @@ pub record IsHolders (market : Market) (i a : ℕ) (holders : List ℕ) : Type 0
   pub inside : All (λ h. h < length market.limits) holders
   pub once : (j : ℕ) → j < length market.limits → count_by (λ h. h == j) holders ≡ (if holds (limit_cells market j) (cell_of i a) then 1 else 0)
 
+bit_of : (b : Bool) → 0 < cond {A = ℕ} b 1 0 → b ≡ true
+bit_of true k = refl
+bit_of false k = absurd (omega arith)
+
+-- each of them holds the cell
+pub holder_holds : (market : Market) (holders : List ℕ) (i a : ℕ) → IsHolders market i a holders → (k : ℕ) → k < length holders
+    → holds (limit_cells market (get_or holders k 0)) (cell_of i a) ≡ true
+holder_holds market holders i a h k l =
+    let j = get_or holders k 0 in
+    let self = ap {B = ℕ} (λ b. cond b 1 0) (eq-eqb j j refl) in
+    let there : cond {A = ℕ} (j == j) 1 0 ≤ count_by (λ x. x == j) holders = get_or-le-sum_by (λ x. cond (x == j) 1 0) holders k 0 l in
+    bit_of (holds (limit_cells market j) (cell_of i a)) (omega (arith, self, there, h.once j (h.inside k 0 l)))
+
 -- the least of D and the numbers at these indexes
 unfoldable pub least_of : ℕ → List ℕ → List ℕ → ℕ
 least_of D e [] = D
@@ -22,10 +35,6 @@ pub least_le : (D : ℕ) (e holders : List ℕ) → least_of D e holders ≤ D
 unfolding least_of
 least_le D e [] = omega arith
 least_le D e (h ∷ holders) = omega (arith, least_le D e holders)
-
-bit_of : (b : Bool) → 0 < cond {A = ℕ} b 1 0 → b ≡ true
-bit_of true k = refl
-bit_of false k = absurd (omega arith)
 
 least_below : (D : ℕ) (e holders : List ℕ) (j : ℕ) → 0 < count_by (λ h. h == j) holders → least_of D e holders ≤ moment_at e j
 unfolding least_of
@@ -51,12 +60,5 @@ full_holders market D e holders i a size h =
     (λ j l held. least_below D e holders j (let one = h.once j (omega arith) ∙ ap {B = ℕ} (λ b. cond b 1 0) held in omega (arith, one))) in
     let down : full_at D market.limits e i a ≤ least_of D e holders =
     least_from D (full_at D market.limits e i a) e holders (full_le D market.limits e i a)
-    (λ k l. full_below D market.limits e i a (get_or holders k 0) (let w = h.inside k 0 l in omega (arith, w, size)) (held k l)) in
+    (λ k l. full_below D market.limits e i a (get_or holders k 0) (let w = h.inside k 0 l in omega (arith, w, size)) (holder_holds market holders i a h k l)) in
     omega arith
-  where
-    held : (k : ℕ) → k < length holders → holds (limit_cells market (get_or holders k 0)) (cell_of i a) ≡ true
-    held k l =
-        let j = get_or holders k 0 in
-        let self = ap {B = ℕ} (λ b. cond b 1 0) (eq-eqb j j refl) in
-        let there : cond {A = ℕ} (j == j) 1 0 ≤ count_by (λ x. x == j) holders = get_or-le-sum_by (λ x. cond (x == j) 1 0) holders k 0 l in
-        bit_of (holds (limit_cells market j) (cell_of i a)) (omega (arith, self, there, h.once j (h.inside k 0 l)))

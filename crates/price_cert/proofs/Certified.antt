@@ -16,7 +16,7 @@ use Rattle.definitions.specs.Sets.{cell_of, holds, set_sum, SetValue, IsSet}
 use Rattle.definitions.specs.Values.{Limit, Agent, ProblemValue, IsProblem, capped_limits, market_of, limits_of, stated_sets, list_at, demand_at, PricesValue, worths_of}
 use Rattle.definitions.specs.Eating.{full_at, reached, share, moment_at, limit_cells, limit_ceiling, IsEatingTable}
 use Rattle.definitions.specs.Certificate.{ListPlace, next_level, worth_here, worths_along, Falls, HasShapeOf, Certifies, is_left_out, worth_at, place_cell, cell_price, distinct_moments, moment_number, recipe_width, recipe_price, recipe_worths, place_of_list, IsRecipeOf}
-use Rattle.definitions.proofs.Families.{sets_of_problem}
+use Rattle.definitions.proofs.Families.{sets_of_problem, stated_count}
 use Rattle.definitions.proofs.Lists.{each_below}
 use Rattle.definitions.proofs.Members.{number_test, member_at}
 use Rattle.definitions.specs.Laws.{limit_of_set}
@@ -26,7 +26,7 @@ use Rattle.eating_laws.proofs.Limits.{none_free}
 use Rattle.eating_laws.proofs.Moments.{moment_listed}
 use Rattle.eating_laws.proofs.Shares.{place_share, reached_at}
 use Rattle.eating_laws.proofs.Assignment.{share_of, shares_full}
-use Rattle.eating.proofs.Limits.{stated_count, limits_many}
+use Rattle.eating.proofs.Limits.{limits_many}
 use Rattle.price_cert.specs.Certified.{shares_of}
 use Rattle.price_cert.proofs.Numbers.{number_later, number_rises}
 use Rattle.price_cert.proofs.Ahead.{IsEatenFrom, AreNumbers, worths_fall, spaced, worths_right, worth_right, AreWorths, IsWorth}

@@ -18,7 +18,7 @@ use Rattle.definitions.proofs.Members.{cell_test}
 use Rattle.eating_laws.proofs.Full.{cells_at, full_le, full_below}
 use Rattle.eating_laws.proofs.Assignment.{share_of, shares_full}
 use Rattle.eating.proofs.Capped.{cells_left}
-use Rattle.eating.proofs.Limits.{stated_count}
+use Rattle.definitions.proofs.Families.{stated_count}
 use Rattle.price_cert.proofs.CellPrices.{full_held}
 
 -- a list of one cell holds that cell alone

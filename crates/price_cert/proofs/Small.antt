@@ -19,7 +19,7 @@ use Rattle.side_laws.proofs.Members.{least_start}
 use Rattle.eating.specs.Answers.{IsEatenBy}
 use Rattle.eating.specs.Caps.{capped_count, caps_before}
 use Rattle.eating.specs.Eaten.{EatenValue}
-use Rattle.eating.proofs.Counts.{list_short}
+use Rattle.definitions.proofs.Problems.{list_short}
 use Rattle.eating.proofs.Limits.{limits_many}
 use Rattle.price_cert.specs.Certified.{AreSmall}
 

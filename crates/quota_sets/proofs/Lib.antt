@@ -3,6 +3,6 @@ mod FamilyLemmas
 mod NameLemmas
 mod ProblemLemmas
 mod RowLemmas
-mod RunLemmas
+pub mod RunLemmas
 mod SumLemmas
 mod TestLemmas

@@ -32,25 +32,25 @@ rising_agents cells rises i j d l m = elim (cases_lt i j) [
 pub rest_rises : (cells : List Cell) (s : ℕ) → IsNonDecreasingBy (λ (c : Cell). c.agent) cells → IsNonDecreasingBy (λ (c : Cell). c.agent) (drop s cells)
 rest_rises cells s rises = IsNonDecreasingBy-drop (λ (c : Cell). c.agent) s cells rises
 
--- between the first cell that is not before the agent and the first after it stand its cells
-pub run_is_filter : (cells : List Cell) (agent s n : ℕ)
-    → IsPartitionPoint (λ c. ltb c.agent agent ≡ true) (λ c. ltb c.agent agent ≡ false) cells s
-    → IsPartitionPoint (λ c. leb c.agent agent ≡ true) (λ c. leb c.agent agent ≡ false) (drop s cells) n
-    → take n (drop s cells) ≡ filter (λ c. eqb c.agent agent) cells
-run_is_filter cells agent s n first second = filter_middle (λ c. eqb c.agent agent) cells s n
+-- where a list does not fall by a key, what has one key stands between the first entry that is not before it and the first after it
+pub run_is_filter : {X : Type 0} (key : X → ℕ) (xs : List X) (at s n : ℕ)
+    → IsPartitionPoint (λ x. ltb (key x) at ≡ true) (λ x. ltb (key x) at ≡ false) xs s
+    → IsPartitionPoint (λ x. leb (key x) at ≡ true) (λ x. leb (key x) at ≡ false) (drop s xs) n
+    → take n (drop s xs) ≡ filter (λ x. eqb (key x) at) xs
+run_is_filter key xs at s n first second = filter_middle (λ x. eqb (key x) at) xs s n
     (λ k d l.
-    let low : k < s = omega (arith, length-take s cells) in
-    let before = ltb-true (get_or cells k d).agent agent (first.0 k d (omega arith) low) in
-    rw (get_or-take s cells k d low) (ne_eqb (get_or cells k d).agent agent (λ e. absurd (omega arith))))
+    let low : k < s = omega (arith, length-take s xs) in
+    let before = ltb-true (key (get_or xs k d)) at (first.0 k d (omega arith) low) in
+    rw (get_or-take s xs k d low) (ne_eqb (key (get_or xs k d)) at (λ e. absurd (omega arith))))
     (λ k d l.
-    let low : k < n = omega (arith, length-take n (drop s cells)) in
-    let inside : s + k < length cells = omega (arith, length-take n (drop s cells), length-drop s cells) in
-    let at = get_or-drop s cells k d in
-    let upto = leb-true (get_or (drop s cells) k d).agent agent (second.0 k d (omega arith) low) in
-    let from = ltb-false (get_or cells (s + k) d).agent agent (first.1 (s + k) d (omega arith) inside) in
-    let agents = ap (λ (c : Cell). c.agent) at in
-    rw (get_or-take n (drop s cells) k d low) (eq-eqb (get_or (drop s cells) k d).agent agent (omega arith)))
+    let low : k < n = omega (arith, length-take n (drop s xs)) in
+    let inside : s + k < length xs = omega (arith, length-take n (drop s xs), length-drop s xs) in
+    let place = get_or-drop s xs k d in
+    let upto = leb-true (key (get_or (drop s xs) k d)) at (second.0 k d (omega arith) low) in
+    let from = ltb-false (key (get_or xs (s + k) d)) at (first.1 (s + k) d (omega arith) inside) in
+    let keys = ap key place in
+    rw (get_or-take n (drop s xs) k d low) (eq-eqb (key (get_or (drop s xs) k d)) at (omega arith)))
     (λ k d l.
-    let inside : n + k < length (drop s cells) = omega (arith, length-drop n (drop s cells)) in
-    let after = leb-false (get_or (drop s cells) (n + k) d).agent agent (second.1 (n + k) d (omega arith) inside) in
-    rw (get_or-drop n (drop s cells) k d) (ne_eqb (get_or (drop s cells) (n + k) d).agent agent (λ e. absurd (omega arith))))
+    let inside : n + k < length (drop s xs) = omega (arith, length-drop n (drop s xs)) in
+    let after = leb-false (key (get_or (drop s xs) (n + k) d)) at (second.1 (n + k) d (omega arith) inside) in
+    rw (get_or-drop n (drop s xs) k d) (ne_eqb (key (get_or (drop s xs) (n + k) d)) at (λ e. absurd (omega arith))))

@@ -1,5 +1,5 @@
 use Rattle.std.proofs.Common.{arith, length, ap}
-use Rattle.eating.proofs.Counts.{list_short}
+use Rattle.definitions.proofs.Problems.{list_short}
 use Rattle.eating.proofs.plan.capped_cells.Goals as goal
 
 pub overflow_cast-result : goal.overflow_cast-result

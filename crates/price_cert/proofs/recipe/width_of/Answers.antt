@@ -5,7 +5,7 @@ use Rattle.std.proofs.lemmas.Option.{unwrap_or-slice_get}
 use Rattle.std.proofs.lemmas.List.{take_all}
 use Rattle.std.proofs.lemmas.List.Sums.{fold_more}
 use Rattle.definitions.specs.Values.{list_at}
-use Rattle.eating.proofs.Counts.{list_short}
+use Rattle.definitions.proofs.Problems.{list_short}
 use Rattle.price_cert.proofs.recipe.width_of.Goals as goal
 
 pub loop-agent-preserved : goal.loop-agent-preserved

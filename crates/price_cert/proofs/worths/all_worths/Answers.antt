@@ -4,7 +4,7 @@ use Rattle.std.proofs.lemmas.List.{length-map}
 use Rattle.definitions.specs.Certificate.{worths_along}
 use Rattle.definitions.specs.Sets.{cell_of}
 use Rattle.definitions.specs.Values.{list_at}
-use Rattle.eating.proofs.Counts.{list_short}
+use Rattle.definitions.proofs.Problems.{list_short}
 use Rattle.price_cert.specs.Worths.{place_value, place_in, worths_in}
 use Rattle.price_cert.proofs.WorthSteps.{list_more}
 use Rattle.price_cert.proofs.worths.all_worths.Goals as goal

@@ -18,4 +18,4 @@ returns-clause-value c =
     (IsPartitionedBy-ltb (λ (w : Cell). w.agent) cells c.args.agent agents) (λ a r q k. search rules) in
     let second = IsPartitionPoint-from_clause (λ (w : Cell). leb w.agent c.args.agent) _ _ c.partition_point-end.ensures.partitioned
     (IsPartitionedBy-leb (λ (w : Cell). w.agent) (take (length cells - start) (drop start cells)) c.args.agent later) (λ a r q k. search rules) in
-    rw (rest, ← c.cells-cells.ensures.value) (run_is_filter cells c.args.agent start c.partition_point-end.result first (rw rest at second))
+    rw (rest, ← c.cells-cells.ensures.value) (run_is_filter (λ (w : Cell). w.agent) cells c.args.agent start c.partition_point-end.result first (rw rest at second))

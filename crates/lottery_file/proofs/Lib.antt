@@ -13,6 +13,7 @@ mod PiecesPass
 mod PlacesPass
 pub mod ReadOnce
 mod RecordFacts
+mod RecordsLeft
 pub mod RoundTrip
 mod SaidFacts
 mod SaidLawful

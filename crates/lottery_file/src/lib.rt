@@ -45,7 +45,7 @@ use quota_sets::{Names, Pieces, Prices, Scaled};
 use reading::{finished, read_records};
 pub use rows::row_of_give;
 use std::alloc::Global;
-use table_text::records;
+use table_text::RecordReader;
 pub use writers::{write_end, write_head, write_lottery, write_piece};
 
 /// A lottery as its text says it: the names, the expected assignment in units of a denominator, the
@@ -76,7 +76,7 @@ pub fn read_lottery(alloc: Global, bytes: &[u8]) -> Result<Lottery, LotteryRefus
     ensures lawful { IfOk result (λ l. IsLawfulLottery (lottery_value l)) }
     ensures fault { IfErr result (RefusedFor bytes.now) }
 {
-    let rows = records(alloc, bytes)?;
-    let state = read_records(alloc, &rows)?;
+    let mut reader = RecordReader::new(alloc, bytes);
+    let state = read_records(alloc, &mut reader)?;
     Ok(finished(state))
 }

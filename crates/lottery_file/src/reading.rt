@@ -1,6 +1,6 @@
 // The records of a text, one after the other, and the lottery that they make. What one record says
 // isn't known here.
-ghost use Rattle.std.specs.Prelude.{◌≡◌};
+ghost use Rattle.std.specs.Prelude.{◌≡◌, ◌<◌, ◌-◌, ◌^◌, length};
 ghost use Rattle.definitions.specs.Sets.{IsScaledMatrix};
 ghost use Rattle.lottery_file.specs.Said.{nothing};
 ghost use Rattle.lottery_file.specs.Lotteries.{lottery_of, lottery_value};
@@ -15,7 +15,7 @@ use crate::totals::{PieceList, Units};
 use crate::words::is_ended;
 use quota_sets::{Names, Prices, Scaled};
 use std::alloc::Global;
-use table_text::Rows;
+use table_text::{RecordReader, Row};
 
 #[tactic(auto, unfolding(crate::specs::Reading::held))]
 fn start(alloc: Global) -> State
@@ -38,20 +38,27 @@ fn start(alloc: Global) -> State
 }
 
 // What the records of a text say.
-pub(crate) fn read_records(alloc: Global, rows: &Rows) -> Result<State, LotteryRefusal>
-    ensures { ReadsRecords rows.now result }
+pub(crate) fn read_records(
+    alloc: Global,
+    reader: &mut RecordReader,
+) -> Result<State, LotteryRefusal>
+    requires { length reader.old < 2 ^ 64 - 1 }
+    ensures { ReadsRecords reader.old result }
 {
     let mut state = start(alloc);
-    for i in 0..rows.len() {
-        if let Err(stop) = take_record(alloc, rows.at(i), &mut state) {
-            return Err(refused(stop, i as u64 + 1));
+    let mut row = Row::new(alloc);
+    let mut record_no = 1;
+    while reader.read(&mut row)? {
+        if let Err(stop) = take_record(alloc, &row, &mut state) {
+            return Err(refused(stop, record_no));
         }
+        record_no += 1;
     }
     if is_ended(state.last) {
         return Ok(state);
     }
     Err(LotteryRefusal::Fault(LotteryFault {
-        record_no: rows.next_number(),
+        record_no,
         kind: LotteryKind::CutOff,
     }))
 }

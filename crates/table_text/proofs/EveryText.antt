@@ -3,7 +3,7 @@ use Rattle.std.proofs.Common.{◌≡◌, ◌+◌, ◌-◌, ◌<◌, ◌≤◌, �
 use Rattle.std.specs.Prelude.{cond}
 use Rattle.std.proofs.lemmas.Bool.{cases_Bool}
 use Rattle.csv.specs.Machine.{Read, after_end, ends_at_end, ends_with, field_after, fields_after, in_field, is_end, next_record, start_field, start_record, step}
-use Rattle.csv.specs.Reading.{AreRecords, Reached, default_config, strip_bom}
+use Rattle.csv.specs.Reading.{AreRecords, Reached, default_config, records_from, records_next, strip_bom}
 use Rattle.csv.specs.declared.parser.Action.{Action}
 use Rattle.csv.specs.declared.parser.Action.TheVariants as act
 use Rattle.csv.specs.declared.parser.State.{State}
@@ -54,7 +54,7 @@ well-step st.AfterCr c = well-if (c == 10) (st.StartRecord, act.Skip) (start_rec
 abbrev IsShorter : List ℕ → Read → Type 0
 IsShorter xs p = (length p.2 ≤ length xs - 1) × (ends_at_end p.1 ≡ false)
 
-read-shorter : (s : State) (fields : Row) (field xs : List ℕ) (p : Read) → next_record default_config s fields field xs ≡ Some p → IsShorter xs p
+pub read-shorter : (s : State) (fields : Row) (field xs : List ℕ) (p : Read) → next_record default_config s fields field xs ≡ Some p → IsShorter xs p
 unfolding next_record
 read-shorter s fields field [] p e = elim (cases_Bool (ends_at_end s)) [
   | inl ends ↦
@@ -71,36 +71,42 @@ read-shorter s fields field (c ∷ rest) p e = elim (cases_Bool (is_end (step de
       (omega (arith, later.0), later.1)
 ]
 
--- the records from a state in which the end of the text ends none
-abbrev HasRecords : State → List ℕ → Type 0
-HasRecords s xs = (rows : List Row) × AreRecords default_config s xs rows
+-- the records of a text from a state, and how many they are at most
+abbrev AreLeft : State → List ℕ → List Row → Type 0
+AreLeft s xs rows = AreRecords default_config s xs rows × (length rows ≤ length xs)
 
-one-more : (s : State) (xs : List ℕ) (p : Read) → next_record default_config s [] [] xs ≡ Some p → HasRecords p.1 p.2 → HasRecords s xs
+pub one-more : (s : State) (xs : List ℕ) (p : Read) (rows : List Row) → next_record default_config s [] [] xs ≡ Some p → AreRecords default_config p.1 p.2 rows
+    → AreRecords default_config s xs (p.0 ∷ rows)
 unfolding Reached
-one-more s xs p e h = (p.0 ∷ h.0, (h.1.0, h.1.1, (p, e, refl, h.1.2), h.1.3))
+one-more s xs p rows e h = (h.0, h.1, (p, e, refl, h.2), h.3)
 
-no-more : (s : State) (xs : List ℕ) → next_record default_config s [] [] xs ≡ None → HasRecords s xs
+pub no-more : (s : State) (xs : List ℕ) → next_record default_config s [] [] xs ≡ None → AreRecords default_config s xs []
 unfolding Reached
-no-more s xs e = ([], (s, xs, (refl, refl), e))
+no-more s xs e = (s, xs, (refl, refl), e)
 
 -- what the next read gives, and the records after it
-from-next : (s : State) (xs : List ℕ) (o : Option Read) → next_record default_config s [] [] xs ≡ o
-    → ((p : Read) → next_record default_config s [] [] xs ≡ Some p → HasRecords p.1 p.2) → HasRecords s xs
-from-next s xs None e more = no-more s xs e
-from-next s xs (Some p) e more = one-more s xs p e (more p e)
+from-next : (n : ℕ) (s : State) (c : ℕ) (rest : List ℕ) (o : Option Read) → next_record default_config s [] [] (c ∷ rest) ≡ o
+    → ((p : Read) → next_record default_config s [] [] (c ∷ rest) ≡ Some p → AreLeft p.1 p.2 (records_from default_config n p.1 p.2))
+    → AreLeft s (c ∷ rest) (records_next (records_from default_config n) o)
+from-next n s c rest None e more = (no-more s (c ∷ rest) e, omega arith)
+from-next n s c rest (Some p) e more =
+    let later = more p e in
+    let shorter = read-shorter s [] [] (c ∷ rest) p e in
+    (one-more s (c ∷ rest) p (records_from default_config n p.1 p.2) e later.0, omega (arith, later.1, shorter.0))
 
-has-records : (n : ℕ) (s : State) (xs : List ℕ) → length xs < n → ends_at_end s ≡ false → HasRecords s xs
-unfolding next_record
-has-records zero s xs l e = absurd (omega arith)
-has-records (suc n) s [] l e = no-more s [] (rw e refl)
-has-records (suc n) s (c ∷ rest) l e =
-    from-next s (c ∷ rest) (next_record default_config s [] [] (c ∷ rest)) refl (λ p read.
+-- from a state in which the end of the text ends no record
+pub are-left : (n : ℕ) (s : State) (xs : List ℕ) → length xs < n → ends_at_end s ≡ false → AreLeft s xs (records_from default_config n s xs)
+unfolding next_record records_from
+are-left zero s xs l e = absurd (omega arith)
+are-left (suc n) s [] l e = rw e (no-more s [] (rw e refl), omega arith)
+are-left (suc n) s (c ∷ rest) l e =
+    from-next n s c rest (next_record default_config s [] [] (c ∷ rest)) refl (λ p read.
     let shorter = read-shorter s [] [] (c ∷ rest) p read in
-    has-records n p.1 p.2 (omega (arith, shorter.0, l)) shorter.1)
+    are-left n p.1 p.2 (omega (arith, shorter.0, l)) shorter.1)
 
 -- every text has a list of rows
 pub IsTextOf-some : (bytes : List ℕ) → (rows : List Row) × IsTextOf bytes rows
 IsTextOf-some bytes =
     let text = strip_bom (strip_bom bytes) in
-    let h = has-records (length text + 1) st.StartRecord text (omega arith) refl in
-    (map kept_fields h.0, (h.0, h.1, refl))
+    let all = records_from default_config (length text + 1) st.StartRecord text in
+    (map kept_fields all, (all, (are-left (length text + 1) st.StartRecord text (omega arith) refl).0, refl))

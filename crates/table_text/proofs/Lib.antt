@@ -6,6 +6,7 @@ pub mod KnownNames
 mod MarkFacts
 mod NameFacts
 mod ReadFacts
+mod OneRead
 pub mod RoundTrips
 mod RowFacts
 mod ShareFacts

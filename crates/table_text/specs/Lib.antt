@@ -1,4 +1,5 @@
 pub mod Limits
+pub mod Reading
 pub mod Records
 pub mod Rows
 pub mod Laws

@@ -19,6 +19,7 @@
 mod laws;
 mod names;
 mod numbers;
+mod reading;
 mod row;
 mod rows;
 mod shares;
@@ -28,6 +29,7 @@ mod writing;
 pub use laws::{text_reads_once, written_text_reads_back};
 pub use names::{lawful_name, name_of};
 pub use numbers::{digits, read_count, read_signed};
+pub use reading::RecordReader;
 pub use row::{NoMemory, Row};
 pub use rows::{Rows, records};
 pub use shares::read_share;

@@ -60,13 +60,12 @@ impl Row {
         }
     }
 
-    /// The row without fields, with room for so many bytes and fields.
-    pub(crate) fn with_capacity(alloc: Global, bytes: usize, fields: usize) -> Result<Row, NoMemory>
-        ensures { IfOk result (λ r. r ≡ []) }
+    /// Takes all fields away, and keeps the room that they had.
+    pub fn clear(&mut self)
+        ensures { self.new ≡ [] }
     {
-        let bytes = Vec::with_capacity(alloc, bytes)?;
-        let ends = Vec::with_capacity(alloc, fields)?;
-        Ok(Row { bytes, ends })
+        self.bytes.clear();
+        self.ends.clear();
     }
 
     /// Adds a copy of a field as the last one. After `NoMemory` the row is as before.

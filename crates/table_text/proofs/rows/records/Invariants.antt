@@ -1,12 +1,9 @@
-use Rattle.std.proofs.Common.{◌≡◌, ◌<◌, ℕ, List, Some, map, true}
-use Rattle.csv.specs.Reading.{Reached, Ready, default_config, source_of, strip_bom}
-use Rattle.csv.specs.declared.parser.State.TheVariants as st
-use Rattle.csv.specs.declared.reader.Trim.TheVariants as trim
-use Rattle.table_text.specs.Rows.{kept_fields}
+use Rattle.std.proofs.Common.{◌++◌, length}
+use Rattle.table_text.specs.Rows.{IsTextOf}
 use Rattle.table_text.proofs.rows.records.Given as goal
 
-abbrev pub invariant-loop-record : goal.invariant-loop-record
-invariant-loop-record l = (l.record-iterator.rdr.trim ≡ trim.None) × Ready l.record-iterator.rdr × (0 < l.record-iterator.left) × (l.record-iterator.rdr.config ≡ default_config)
-    × (y : List ℕ) × (source_of (λ s. Some s.now) l.record-iterator.rdr ≡ Some y)
-    × (all : List (List (List ℕ))) × Reached default_config st.StartRecord (strip_bom (strip_bom l.fn.bytes)) all l.record-iterator.rdr.state y × (l.rows.items ≡ map kept_fields all)
-    × (l.record-iterator.rdr.flexible ≡ true)
+abbrev pub invariant-loop-row : goal.invariant-loop-row
+invariant-loop-row l = IsTextOf l.fn.bytes (l.rows.items ++ l.reader)
+
+abbrev pub decreases-loop-row : goal.decreases-loop-row
+decreases-loop-row l = length l.reader

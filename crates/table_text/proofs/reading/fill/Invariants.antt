@@ -1,6 +1,6 @@
 use Rattle.std.proofs.Common.{◌≡◌, take}
 use Rattle.csv.specs.Records.{fields_of}
-use Rattle.table_text.proofs.rows.row_of.Given as goal
+use Rattle.table_text.proofs.reading.fill.Given as goal
 
 abbrev pub invariant-loop-i : goal.invariant-loop-i
 invariant-loop-i l = l.row ≡ take l.i (fields_of l.fields)

@@ -1,8 +1,8 @@
 use Rattle.std.proofs.Common.{refl, arith, ◌∙◌}
 use Rattle.table_text.specs.Rows.{kept_count}
 use Rattle.table_text.proofs.RowFacts.{kept_count-step-full, kept_count-step-blank, kept_count-step-none}
-use Rattle.table_text.proofs.rows.count_kept.Goals as goal
-use Rattle.table_text.proofs.rows.count_kept.Goals.{in-Some+then-not-is_empty, in-Some+else-not-is_empty, in-None}
+use Rattle.table_text.proofs.reading.count_kept.Goals as goal
+use Rattle.table_text.proofs.reading.count_kept.Goals.{in-Some+then-not-is_empty, in-Some+else-not-is_empty, in-None}
 
 pub loop-i-init : goal.loop-i-init
 unfolding kept_count

@@ -1,5 +1,5 @@
 use Rattle.table_text.proofs.MarkFacts.{mark-short, mark-off, mark-none}
-use Rattle.table_text.proofs.rows.without_mark.Goals as goal
+use Rattle.table_text.proofs.reading.without_mark.Goals as goal
 
 pub returns-then-bytes-lt3 : goal.returns-then-bytes-lt3
 returns-then-bytes-lt3 c = mark-short _ c.if-bytes-lt3.true

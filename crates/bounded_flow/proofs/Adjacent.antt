@@ -1,17 +1,20 @@
 -- The ends of edges in order of their nodes.
-use Rattle.std.proofs.Common.{Ordering, ◌≡◌, ℕ, ◌+◌, ◌<◌, ◌≤◌, ◌∙◌, List, [], ◌∷◌, ◌++◌, length, get_or, true, false, ltb, inl, inr, ap, sym, subst, refl, arith}
+use Rattle.std.proofs.Common.{Ordering, ◌≡◌, ℕ, ◌+◌, ◌<◌, ◌≤◌, ◌∙◌, List, [], ◌∷◌, ◌++◌, length, map, get_or, true, false, ltb, inl, inr, ap, sym, subst, refl, arith}
 use Rattle.std.specs.List.{Contains}
 use Rattle.std.specs.List.Sorted.{IsPermutation, IsNonDecreasingBy, IsPartitionPoint}
-use Rattle.std.proofs.lemmas.Bool.{ltb-true, ltb-false, lt-ltb, true≢false, cases_lt}
-use Rattle.std.proofs.lemmas.List.{get_or_push, get_or_append_left, length_push, get_or_default}
+use Rattle.std.proofs.lemmas.Bool.{ltb-true, ltb-false, lt-ltb, true≢false, cases_eq, cases_lt}
+use Rattle.std.proofs.lemmas.List.{get_or_push, get_or_append_left, get_or-map, length_push, get_or_default}
 use Rattle.std.proofs.lemmas.List.Sorted.{All-permutation, Contains-permutation}
 use Rattle.std.proofs.lemmas.List.Elements.{All-push, All-weaker, Contains-append_left, Contains-push}
 use Rattle.std.specs.declared.cmp.Ordering.TheVariants.{Less}
 use Rattle.std.specs.Ordering.{is_lt, nat_cmp, ordering_then}
+use Rattle.bounded_flow.specs.declared.edge.Edge.{Edge}
 use Rattle.bounded_flow.specs.declared.search.End.{End}
 use Rattle.bounded_flow.specs.declared.search.Adjacency.{Adjacency}
+use Rattle.bounded_flow.specs.Edges.{gap_of, wire}
 use Rattle.bounded_flow.specs.Searches.{IsAdjacency}
 use Rattle.bounded_flow.specs.Loads.{AreEnds, AreFirsts}
+use Rattle.bounded_flow.proofs.Balances.{wires_many}
 
 -- what holds of each number below b and of b holds of each below b + 1
 below_or_here : (P : ℕ → Type 0) (b : ℕ) → ((k : ℕ) → k < b → P k) → P b → (k : ℕ) → k < b + 1 → P k
@@ -21,23 +24,34 @@ below_or_here P b below here k h = elim (cases_lt k b) [
 ]
 
 -- the two ends of one edge more
-pub ends_more : (wires : List (ℕ × ℕ)) (b : ℕ) (ends : List End) (tail head : ℕ) → ((w : ℕ × ℕ) → get_or wires b w ≡ (tail, head)) → AreEnds wires b ends
-    → AreEnds wires (b + 1) ((ends ++ record { node = tail; edge = b } ∷ []) ++ record { node = head; edge = b } ∷ [])
-ends_more wires b ends tail head at h =
-    let t : End = record { node = tail; edge = b } in
-    let u : End = record { node = head; edge = b } in
+pub ends_more : (edges : List Edge) (b : ℕ) (ends : List End) (d : Edge) → b < length edges → AreEnds edges b ends
+    → AreEnds edges (b + 1) ((ends ++ record { node = (get_or edges b d).tail; edge = b } ∷ []) ++ record { node = (get_or edges b d).head; edge = b } ∷ [])
+ends_more edges b ends d within h =
+    let t : End = record { node = (get_or edges b d).tail; edge = b } in
+    let u : End = record { node = (get_or edges b d).head; edge = b } in
+    let at : (e : Edge) → get_or edges b e ≡ get_or edges b d = λ e. get_or_default edges b e d within in
     let more : List End = ends ++ t ∷ [] in
     record {
       known = (let P : End → Type 0 = λ e. e.edge < b + 1 in
           All-push P more u (All-push P ends t (All-weaker (λ e. e.edge < b) P (λ e l. omega arith) ends h.known) (omega arith)) (omega arith));
-      tails = λ k w l. below_or_here (λ (k : ℕ). Contains (more ++ u ∷ []) (record { node = (get_or wires k w).0; edge = k })) b
-          (λ k l. Contains-append_left more (u ∷ []) (record { node = (get_or wires k w).0; edge = k }) (Contains-append_left ends (t ∷ []) (record { node = (get_or wires k w).0; edge = k }) (h.tails k w l)))
-          (subst (λ (n : ℕ × ℕ). Contains (more ++ u ∷ []) (record { node = n.0; edge = b })) (sym (at w)) (Contains-append_left more (u ∷ []) t (Contains-push ends t)))
-          k l;
-      heads = λ k w l. below_or_here (λ (k : ℕ). Contains (more ++ u ∷ []) (record { node = (get_or wires k w).1; edge = k })) b
-          (λ k l. Contains-append_left more (u ∷ []) (record { node = (get_or wires k w).1; edge = k }) (Contains-append_left ends (t ∷ []) (record { node = (get_or wires k w).1; edge = k }) (h.heads k w l)))
-          (subst (λ (n : ℕ × ℕ). Contains (more ++ u ∷ []) (record { node = n.1; edge = b })) (sym (at w)) (Contains-push more u))
-          k l;
+      tails = λ k e l off. below_or_here (λ (k : ℕ). 0 < gap_of (get_or edges k e) → Contains (more ++ u ∷ []) (record { node = (get_or edges k e).tail; edge = k })) b
+          (λ k l off. Contains-append_left more (u ∷ []) (record { node = (get_or edges k e).tail; edge = k }) (Contains-append_left ends (t ∷ []) (record { node = (get_or edges k e).tail; edge = k }) (h.tails k e l off)))
+          (λ off. subst (λ (x : Edge). Contains (more ++ u ∷ []) (record { node = x.tail; edge = b })) (sym (at e)) (Contains-append_left more (u ∷ []) t (Contains-push ends t)))
+          k l off;
+      heads = λ k e l off. below_or_here (λ (k : ℕ). 0 < gap_of (get_or edges k e) → Contains (more ++ u ∷ []) (record { node = (get_or edges k e).head; edge = k })) b
+          (λ k l off. Contains-append_left more (u ∷ []) (record { node = (get_or edges k e).head; edge = k }) (Contains-append_left ends (t ∷ []) (record { node = (get_or edges k e).head; edge = k }) (h.heads k e l off)))
+          (λ off. subst (λ (x : Edge). Contains (more ++ u ∷ []) (record { node = x.head; edge = b })) (sym (at e)) (Contains-push more u))
+          k l off;
+    }
+
+-- one edge more that has no gap
+pub ends_same : (edges : List Edge) (b : ℕ) (ends : List End) (d : Edge) → b < length edges → gap_of (get_or edges b d) ≡ 0 → AreEnds edges b ends → AreEnds edges (b + 1) ends
+ends_same edges b ends d within even h =
+    let none : (e : Edge) → 0 < gap_of (get_or edges b e) → ⊥ = λ e off. (let is = ap gap_of (get_or_default edges b e d within) in absurd (omega (arith, is, off, even))) in
+    record {
+      known = All-weaker (λ e. e.edge < b) (λ (e : End). e.edge < b + 1) (λ e l. omega arith) ends h.known;
+      tails = λ k e l. below_or_here (λ (k : ℕ). 0 < gap_of (get_or edges k e) → Contains ends (record { node = (get_or edges k e).tail; edge = k })) b (λ k l. h.tails k e l) (λ off. absurd (none e off)) k l;
+      heads = λ k e l. below_or_here (λ (k : ℕ). 0 < gap_of (get_or edges k e) → Contains ends (record { node = (get_or edges k e).head; edge = k })) b (λ k l. h.heads k e l) (λ off. absurd (none e off)) k l;
     }
 
 -- one node's first place more
@@ -68,18 +82,42 @@ no_less_node a b o h = elim (cases_lt a b) [
 ]
 
 -- sorted ends and the first place of each node
-pub adjacency_made : (n : ℕ) (wires : List (ℕ × ℕ)) (many : ℕ) (ends : List End) (a : Adjacency) → many ≡ length wires → AreEnds wires many ends → IsPermutation ends a.ends.items
-    → IsNonDecreasingBy (λ e. e.node) a.ends.items → AreFirsts n a.ends.items a.first.items → IsAdjacency n a wires
-adjacency_made n wires many ends a same h moved order first =
+pub adjacency_made : (n : ℕ) (edges : List Edge) (ends : List End) (a : Adjacency) → AreEnds edges (length edges) ends → IsPermutation ends a.ends.items
+    → IsNonDecreasingBy (λ e. e.node) a.ends.items → AreFirsts n a.ends.items a.first.items → IsAdjacency n a edges
+adjacency_made n edges ends a h moved order first =
     let found : (x : End) → Contains ends x → (d : End) → (k : ℕ) × (k < length a.ends.items) × (get_or a.ends.items k d ≡ x) = λ x c d. (
     let (k, l, e) = Contains-permutation ends a.ends.items x moved c in
     (k, l, get_or_default a.ends.items k d x l ∙ e)) in
     record {
       firsts = first.many;
-      known = λ k d l. (let e = All-permutation (λ (e : End). e.edge < many) ends a.ends.items moved h.known k d l in omega arith);
-      tails = λ b w d l. found (record { node = (get_or wires b w).0; edge = b }) (h.tails b w (omega arith)) d;
-      heads = λ b w d l. found (record { node = (get_or wires b w).1; edge = b }) (h.heads b w (omega arith)) d;
+      known = λ k d l. All-permutation (λ (e : End). e.edge < length edges) ends a.ends.items moved h.known k d l;
+      tails = λ b e d l off. found (record { node = (get_or edges b e).tail; edge = b }) (h.tails b e l off) d;
+      heads = λ b e d l off. found (record { node = (get_or edges b e).head; edge = b }) (h.heads b e l off) d;
       order = λ j k d. order j k d;
       before = first.before;
       after = first.after;
+    }
+
+-- it serves edges with the same ends, where those that had no gap have none
+pub adjacency_later : (n : ℕ) (old new : List Edge) (a : Adjacency) → map wire new ≡ map wire old → ((b : ℕ) (d : Edge) → b < length old → gap_of (get_or old b d) ≡ 0 → gap_of (get_or new b d) ≡ 0) → IsAdjacency n a old → IsAdjacency n a new
+adjacency_later n old new a wires even adjacent =
+    let many : length new ≡ length old = wires_many new old wires in
+    let off_before : (b : ℕ) (d : Edge) → b < length new → 0 < gap_of (get_or new b d) → 0 < gap_of (get_or old b d) = λ b d l off. elim (cases_eq (gap_of (get_or old b d)) 0) [
+      | inl none ↦ (let e = even b d (omega (arith, l, many)) none in absurd (omega (arith, e, off)))
+      | inr some ↦ omega (arith, some)
+    ] in
+    let same : (b : ℕ) (d : Edge) → b < length new → wire (get_or new b d) ≡ wire (get_or old b d) = λ b d l.
+    sym (get_or-map wire new b d (0, 0) l) ∙ ap (λ ws. get_or ws b (0, 0)) wires ∙ get_or-map wire old b d (0, 0) (omega (arith, l, many)) in
+    record {
+      firsts = adjacent.firsts;
+      known = λ k d l. (let h = adjacent.known k d l in omega (arith, h, many));
+      tails = λ b e d l off. (
+          let (k, inside, is) = adjacent.tails b e d (omega (arith, l, many)) (off_before b e l off) in
+          (k, inside, is ∙ ap (λ (v : ℕ). record { node = v; edge = b }) (sym (ap (λ (w : ℕ × ℕ). w.0) (same b e l)))));
+      heads = λ b e d l off. (
+          let (k, inside, is) = adjacent.heads b e d (omega (arith, l, many)) (off_before b e l off) in
+          (k, inside, is ∙ ap (λ (v : ℕ). record { node = v; edge = b }) (sym (ap (λ (w : ℕ × ℕ). w.1) (same b e l)))));
+      order = adjacent.order;
+      before = adjacent.before;
+      after = adjacent.after;
     }

@@ -97,7 +97,7 @@ module _ (f : FamilyValue) (t : TreesValue) (x : ScaledValue) (family : IsFamily
       (λ e h. ap (λ y. cond (eqb (test e) v) y 0) (rest_unused x.denominator e h)) each_unused
 
   -- the loaded edges are a flow
-  flow_of_loaded : IsFlow x.denominator (length f.sets + 1) edges
+  pub flow_of_loaded : IsFlow x.denominator (length f.sets + 1) edges
   flow_of_loaded = record {
     inside = inside_edges f family t r edges loaded.wires;
     sound = λ k d l. sound_unused x.denominator _ (loaded.empty k d l) (let few = loaded.few k d l in let total = scaled.total in omega arith);
@@ -106,7 +106,7 @@ module _ (f : FamilyValue) (t : TreesValue) (x : ScaledValue) (family : IsFamily
   }
 
   -- a net's fields
-  pub web_of_trees : (adjacency : Adjacency) (search : Search) → IsAdjacency (length f.sets + 1) adjacency (map wire edges) → HasRoom (length f.sets + 1) search
+  pub web_of_trees : (adjacency : Adjacency) (search : Search) → IsAdjacency (length f.sets + 1) adjacency edges → HasRoom (length f.sets + 1) search
       → IsWeb f.agents f.columns x.denominator (side_sets f) edges adjacency search
   web_of_trees adjacency search adjacent room =
       let many : length (side_sets f) ≡ length f.sets = length-map f.sets side_set in

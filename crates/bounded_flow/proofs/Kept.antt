@@ -24,14 +24,15 @@ values_kept val cells new old e = sym (take-map val cells new) ∙ ap (take cell
 
 module _ (agents columns left : ℕ) (sets : List SideSet) (edges : List Edge) (adjacency : Adjacency) (search : Search) (web : IsWeb agents columns left sets edges adjacency search) where
   -- with other edges of the same wires and remainders
-  pub web_with : (new : List Edge) (s : Search) → map wire new ≡ map wire edges → map (rest_of left) new ≡ map (rest_of left) edges → IsFlow left (node_count sets) new → HasRoom (node_count sets) s → IsWeb agents columns left sets new adjacency s
-  web_with new s wires rests flow room = record {
+  pub web_with : (new : List Edge) (a : Adjacency) (s : Search) → map wire new ≡ map wire edges → map (rest_of left) new ≡ map (rest_of left) edges → IsFlow left (node_count sets) new → IsAdjacency (node_count sets) a new → HasRoom (node_count sets) s
+      → IsWeb agents columns left sets new a s
+  web_with new a s wires rests flow adjacent room = record {
     lawful = web.lawful;
     left_limit = web.left_limit;
     many = wires_many new edges wires ∙ web.many;
     flow = flow;
     adds = subst (Adds columns (agents * columns) (set_cells_of sets)) (sym wires) web.adds;
-    adjacent = subst (IsAdjacency (node_count sets) adjacency) (sym wires) web.adjacent;
+    adjacent = adjacent;
     room = room;
     total = subst (λ (t : ℕ). t ≤ 1000 * 2 ^ 116) (sum-map (rest_of left) (take (agents * columns) new))
         (subst (λ (values : List ℕ). sum values ≤ 1000 * 2 ^ 116) (sym (values_kept (rest_of left) (agents * columns) new edges rests))

@@ -12,6 +12,7 @@ pub mod Looking
 pub mod Making
 pub mod Mending
 pub mod Pushes
+pub mod Ranking
 pub mod Repairs
 pub mod Resets
 pub mod Settled

@@ -1,12 +1,12 @@
 -- The scan of one node's part of the ends.
-use Rattle.std.proofs.Common.{◌≡◌, ℕ, ◌+◌, ◌<◌, ◌≤◌, ◌⊎◌, Bool, true, false, cond, ltb, List, length, map, get_or, refl, ap, sym, ◌∙◌, subst, inl, inr, arith}
+use Rattle.std.proofs.Common.{◌≡◌, ℕ, ◌+◌, ◌<◌, ◌≤◌, ◌⊎◌, Bool, true, false, cond, ltb, List, length, get_or, refl, ap, sym, ◌∙◌, subst, inl, inr, arith}
 use Rattle.std.proofs.lemmas.Bool.{cases_eq, cases_lt}
-use Rattle.std.proofs.lemmas.List.{get_or-map, get_or_default, length-map}
+use Rattle.std.proofs.lemmas.List.{get_or_default}
 use Rattle.bounded_flow.specs.declared.edge.Edge.{Edge}
 use Rattle.bounded_flow.specs.declared.search.End.{End}
 use Rattle.bounded_flow.specs.declared.search.Adjacency.{Adjacency}
 use Rattle.bounded_flow.specs.declared.search.Search.{Search}
-use Rattle.bounded_flow.specs.Edges.{enters, leaves, wire}
+use Rattle.bounded_flow.specs.Edges.{enters, gap_of, leaves}
 use Rattle.bounded_flow.specs.Searches.{IsAdjacency, Reached, IsLater, IsFollowed}
 
 -- the ends from this place on and before that one are of the node, and their edges are followed
@@ -56,28 +56,24 @@ tail_or_head e = by_test (ltb 0 e.under)
     by_test false = inr refl
 
 -- the end from which an edge may be pushed stands among the ends
-end_of : (edges : List Edge) (n : ℕ) (a : Adjacency) (b : ℕ) (d : Edge) (none : End) → IsAdjacency n a (map wire edges) → b < length edges
+end_of : (edges : List Edge) (n : ℕ) (a : Adjacency) (b : ℕ) (d : Edge) (none : End) → IsAdjacency n a edges → b < length edges → 0 < gap_of (get_or edges b d)
     → (k : ℕ) × (k < length a.ends.items) × ((get_or a.ends.items k none).node ≡ leaves (get_or edges b d)) × ((get_or a.ends.items k none).edge ≡ b)
-end_of edges n a b d none adjacent within =
-    let e : Edge = get_or edges b d in
-    let known : b < length (map wire edges) = omega (arith, length-map edges wire, within) in
-    let at : get_or (map wire edges) b (0, 0) ≡ wire e = get_or-map wire edges b d (0, 0) within in
-    elim (tail_or_head e) [
-      | inl tail ↦ (
-          let (k, inside, is) = adjacent.tails b (0, 0) none known in
-          (k, inside, ap (λ (x : End). x.node) is ∙ ap (λ (w : ℕ × ℕ). w.0) at ∙ sym tail, ap (λ (x : End). x.edge) is))
-      | inr head ↦ (
-          let (k, inside, is) = adjacent.heads b (0, 0) none known in
-          (k, inside, ap (λ (x : End). x.node) is ∙ ap (λ (w : ℕ × ℕ). w.1) at ∙ sym head, ap (λ (x : End). x.edge) is))
-    ]
+end_of edges n a b d none adjacent within off = elim (tail_or_head (get_or edges b d)) [
+  | inl tail ↦ (
+      let (k, inside, is) = adjacent.tails b d none within off in
+      (k, inside, ap (λ (x : End). x.node) is ∙ sym tail, ap (λ (x : End). x.edge) is))
+  | inr head ↦ (
+      let (k, inside, is) = adjacent.heads b d none within off in
+      (k, inside, ap (λ (x : End). x.node) is ∙ sym head, ap (λ (x : End). x.edge) is))
+]
 
 -- there are no further ends of the node from this place on
 abbrev pub Stops : List End → ℕ → ℕ → End → Type 0
 Stops ends at node none = (length ends ≤ at) ⊎ ((at < length ends) × ((get_or ends at none).node ≡ node → ⊥))
 
-before_stop : (n k at node : ℕ) (a : Adjacency) (wires : List (ℕ × ℕ)) (none : End) → IsAdjacency n a wires → node < n → get_or a.first.items node 0 ≤ at → Stops a.ends.items at node none
+before_stop : (n k at node : ℕ) (a : Adjacency) (edges : List Edge) (none : End) → IsAdjacency n a edges → node < n → get_or a.first.items node 0 ≤ at → Stops a.ends.items at node none
     → k < length a.ends.items → (get_or a.ends.items k none).node ≡ node → k < at
-before_stop n k at node a wires none adjacent inside order stops within is = elim (cases_lt k at) [
+before_stop n k at node a edges none adjacent inside order stops within is = elim (cases_lt k at) [
   | inl less ↦ less
   | inr more ↦ elim stops [
     | inl ended ↦ absurd (omega (arith, ended, more, within))
@@ -89,14 +85,14 @@ before_stop n k at node a wires none adjacent inside order stops within is = eli
 ]
 
 -- where the scan has stopped, all edges that may be pushed from the node are followed
-pub looked_all : (edges : List Edge) (n : ℕ) (old now : Search) (a : Adjacency) (at node : ℕ) (none : End) → IsAdjacency n a (map wire edges) → node < n
+pub looked_all : (edges : List Edge) (n : ℕ) (old now : Search) (a : Adjacency) (at node : ℕ) (none : End) → IsAdjacency n a edges → node < n
     → Looked edges n old now a.ends.items (get_or a.first.items node 0) at node → Stops a.ends.items at node none → (b : ℕ) → b < length edges → IsFollowed edges now node b
 looked_all edges n old now a at node none adjacent inside looked stops b within d off from =
-    let (k, here, at_node, is_edge) = end_of edges n a b d none adjacent within in
+    let (k, here, at_node, is_edge) = end_of edges n a b d none adjacent within off in
     let is_node : (get_or a.ends.items k none).node ≡ node = at_node ∙ from in
     let start : get_or a.first.items node 0 ≤ k = elim (cases_lt k (get_or a.first.items node 0)) [
       | inl less ↦ (let low = adjacent.before node k none inside less here in absurd (omega (arith, low, is_node)))
       | inr more ↦ more
     ] in
-    let passed = looked.passed k none start (before_stop n k at node a (map wire edges) none adjacent inside looked.order stops here is_node) in
+    let passed = looked.passed k none start (before_stop n k at node a edges none adjacent inside looked.order stops here is_node) in
     subst (λ (j : ℕ). IsFollowed edges now node j) is_edge passed.1 d off from

@@ -127,5 +127,16 @@ repaired left n k from to old mid d e' flow walk known one far is_from is_to sou
                 | inr push ↦ omega (arith, e, push.1.calm low)
               ])
         ];
+        even = λ b f inside none. elim (cases_eq b k) [
+          | inl here ↦ (
+              let e : gap_of (get_or old b f) ≡ gap_of (get_or old k d) = ap (λ j. gap_of (get_or old j f)) here ∙ ap gap_of (get_or_default old k f d known) in
+              absurd (omega (arith, e, none, off)))
+          | inr other ↦ (
+              let e : gap_of (get_or (set mid k e') b f) ≡ gap_of (get_or mid b f) = ap gap_of (get_or-set_other mid k b e' f other) in
+              elim (walk.once b f inside) [
+                | inl stays ↦ e ∙ ap gap_of stays ∙ none
+                | inr push ↦ (let some = push.0 in absurd (omega (arith, some, none)))
+              ])
+        ];
       },
     )

@@ -9,6 +9,7 @@ use Rattle.bounded_flow.specs.Flows.{IsFlow, IsRepair}
 use Rattle.bounded_flow.specs.Nets.{NetValue, IsNet, set_cells_of}
 use Rattle.bounded_flow.specs.Searches.{HasRoom}
 use Rattle.bounded_flow.specs.Webs.{IsWeb, held_sets}
+use Rattle.bounded_flow.proofs.Adjacent.{adjacency_later}
 use Rattle.bounded_flow.proofs.Kept.{values_kept, web_with}
 use Rattle.bounded_flow.proofs.Shown.{shown, IsHeld}
 use Rattle.bounded_flow.proofs.Webs.{cell_values, all_round, net_lawful}
@@ -45,8 +46,9 @@ module _ (n : Inside) (web : IsHeld n) (read new now : List Edge) (s : Search) (
   pub settled_held : HeldWith n now s
   settled_held =
       let nodes = web.room.places in
-      web_with n.agents n.columns n.left (held_sets n.sets.items) n.edges.items n.adjacency n.search web now s repair.wires repair.rests
+      web_with n.agents n.columns n.left (held_sets n.sets.items) n.edges.items n.adjacency n.search web now n.adjacency s repair.wires repair.rests
       (subst (λ (es : List Edge). IsFlow n.left (length (held_sets n.sets.items) + 1) es) (sym settled.written) (subst (λ (k : ℕ). IsFlow n.left k new) nodes settled.flow))
+      (adjacency_later (length (held_sets n.sets.items) + 1) n.edges.items now n.adjacency repair.wires repair.even web.adjacent)
       (subst (λ (k : ℕ). HasRoom k s) nodes settled.room)
 
   pub settled_lawful : IsNet (shown_with n now)

@@ -38,11 +38,12 @@ pub record IsFlow (left n : ℕ) (edges : List Edge) : Type 0 where
   pub whole : Balanced (λ e. e.whole) edges n
   pub rests : Balanced (rest_of left) edges n
 
--- what repairs keep: the wires, the remainders, and each gap below the weight left
+-- what repairs keep: the wires, the remainders, each gap below the weight left, and each edge without a gap
 pub record IsRepair (left : ℕ) (old new : List Edge) : Type 0 where
   pub wires : map wire new ≡ map wire old
   pub rests : map (rest_of left) new ≡ map (rest_of left) old
   pub calm : (b : ℕ) (d : Edge) → b < length old → gap_of (slice_index_or old b d) < left → gap_of (slice_index_or new b d) < left
+  pub even : (b : ℕ) (d : Edge) → b < length old → gap_of (slice_index_or old b d) ≡ 0 → gap_of (slice_index_or new b d) ≡ 0
 
 -- pushes along a way have moved a debt from `to` to `from`: wires and remainders stay, each edge was pushed at most once, and none
 -- that brings a unit to `from`

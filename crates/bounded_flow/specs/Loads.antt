@@ -3,7 +3,7 @@ use Rattle.std.specs.Prelude.{◌≡◌, ℕ, ◌+◌, ◌-◌, ◌<◌, ◌≤�
 use Rattle.std.specs.List.{Contains}
 use Rattle.bounded_flow.specs.declared.edge.Edge.{Edge}
 use Rattle.bounded_flow.specs.declared.search.End.{End}
-use Rattle.bounded_flow.specs.Edges.{wire}
+use Rattle.bounded_flow.specs.Edges.{gap_of, wire}
 use Rattle.bounded_flow.specs.Flows.{Balanced}
 
 -- an edge with these ends and nothing on it
@@ -31,11 +31,11 @@ abbrev pub climbed : ℕ → ℕ → List ℕ → List Edge → List Edge
 climbed cells units [] edges = edges
 climbed cells units (s ∷ sets) edges = climbed cells units sets (raised units (cells + s - 1) edges)
 
--- both ends of the first edges, so many
-pub record AreEnds (wires : List (ℕ × ℕ)) (many : ℕ) (ends : List End) : Type 0 where
+-- both ends of those of the first edges, so many, that have a gap
+pub record AreEnds (edges : List Edge) (many : ℕ) (ends : List End) : Type 0 where
   pub known : All (λ e. e.edge < many) ends
-  pub tails : (b : ℕ) (w : ℕ × ℕ) → b < many → Contains ends (record { node = (slice_index_or wires b w).0; edge = b })
-  pub heads : (b : ℕ) (w : ℕ × ℕ) → b < many → Contains ends (record { node = (slice_index_or wires b w).1; edge = b })
+  pub tails : (b : ℕ) (e : Edge) → b < many → 0 < gap_of (slice_index_or edges b e) → Contains ends (record { node = (slice_index_or edges b e).tail; edge = b })
+  pub heads : (b : ℕ) (e : Edge) → b < many → 0 < gap_of (slice_index_or edges b e) → Contains ends (record { node = (slice_index_or edges b e).head; edge = b })
 
 -- for each of the first n nodes the place from which on no smaller node stands
 pub record AreFirsts (n : ℕ) (ends : List End) (first : List ℕ) : Type 0 where

@@ -6,14 +6,14 @@ use Rattle.bounded_flow.specs.declared.search.Adjacency.{Adjacency}
 use Rattle.bounded_flow.specs.declared.search.Search.{Search}
 use Rattle.bounded_flow.specs.Edges.{gap_of, enters, leaves}
 
--- the ends of all edges by node, and for each of n nodes the place from which on no smaller node stands
-pub record IsAdjacency (n : ℕ) (a : Adjacency) (wires : List (ℕ × ℕ)) : Type 0 where
+-- ends of edges by node, among them both ends of each edge with a gap; and for each of n nodes the place from which on no smaller node stands
+pub record IsAdjacency (n : ℕ) (a : Adjacency) (edges : List Edge) : Type 0 where
   pub firsts : length a.first.items ≡ n
-  pub known : (k : ℕ) (d : End) → k < length a.ends.items → (slice_index_or a.ends.items k d).edge < length wires
-  pub tails : (b : ℕ) (w : ℕ × ℕ) (d : End) → b < length wires
-      → (k : ℕ) × (k < length a.ends.items) × (slice_index_or a.ends.items k d ≡ record { node = (slice_index_or wires b w).0; edge = b })
-  pub heads : (b : ℕ) (w : ℕ × ℕ) (d : End) → b < length wires
-      → (k : ℕ) × (k < length a.ends.items) × (slice_index_or a.ends.items k d ≡ record { node = (slice_index_or wires b w).1; edge = b })
+  pub known : (k : ℕ) (d : End) → k < length a.ends.items → (slice_index_or a.ends.items k d).edge < length edges
+  pub tails : (b : ℕ) (e : Edge) (d : End) → b < length edges → 0 < gap_of (slice_index_or edges b e)
+      → (k : ℕ) × (k < length a.ends.items) × (slice_index_or a.ends.items k d ≡ record { node = (slice_index_or edges b e).tail; edge = b })
+  pub heads : (b : ℕ) (e : Edge) (d : End) → b < length edges → 0 < gap_of (slice_index_or edges b e)
+      → (k : ℕ) × (k < length a.ends.items) × (slice_index_or a.ends.items k d ≡ record { node = (slice_index_or edges b e).head; edge = b })
   pub order : (j k : ℕ) (d : End) → j ≤ k → k < length a.ends.items → (slice_index_or a.ends.items j d).node ≤ (slice_index_or a.ends.items k d).node
   pub before : (v k : ℕ) (d : End) → v < n → k < slice_index a.first.items v → k < length a.ends.items → (slice_index_or a.ends.items k d).node < v
   pub after : (v k : ℕ) (d : End) → v < n → slice_index a.first.items v ≤ k → k < length a.ends.items → v ≤ (slice_index_or a.ends.items k d).node

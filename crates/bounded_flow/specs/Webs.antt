@@ -9,7 +9,9 @@ use Rattle.bounded_flow.specs.declared.search.Search.{Search}
 use Rattle.bounded_flow.specs.Edges.{rest_of, wire}
 use Rattle.bounded_flow.specs.Flows.{Adds, IsFlow}
 use Rattle.bounded_flow.specs.Nets.{set_cells_of}
+use Rattle.bounded_flow.specs.Ranks.{IsRanked}
 use Rattle.bounded_flow.specs.Searches.{IsAdjacency, HasRoom}
+use Rattle.key_queue.specs.declared.key.Falling.{Falling}
 
 -- a held set as its side and its cells
 abbrev pub held_set : HeldSet → SideSet
@@ -39,6 +41,11 @@ pub record IsWeb (agents columns left : ℕ) (sets : List SideSet) (edges : List
   pub many : length edges ≡ agents * columns + length sets
   pub flow : IsFlow left (node_count sets) edges
   pub adds : Adds columns (agents * columns) (set_cells_of sets) (map wire edges)
-  pub adjacent : IsAdjacency (node_count sets) adjacency (map wire edges)
+  pub adjacent : IsAdjacency (node_count sets) adjacency edges
   pub room : HasRoom (node_count sets) search
   pub total : sum_by (rest_of left) (take (agents * columns) edges) ≤ 1000 * 2 ^ 116
+
+-- and the queue has the gap of each edge
+pub record IsRankedWeb (agents columns left : ℕ) (sets : List SideSet) (edges : List Edge) (gaps : List Falling) (adjacency : Adjacency) (search : Search) : Type 0 where
+  pub web : IsWeb agents columns left sets edges adjacency search
+  pub ranked : IsRanked edges gaps

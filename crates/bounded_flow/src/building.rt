@@ -1,10 +1,9 @@
 // Making the graph of two trees, with all of a matrix left.
 
-ghost use Rattle.std.specs.Prelude.{◌≡◌, ◌+◌, ◌*◌, ◌/◌, ◌%◌, ◌^◌, ◌<◌, ◌≤◌, ◌++◌, length, map, All, IfOk, IfSome, OnOk};
+ghost use Rattle.std.specs.Prelude.{◌≡◌, ◌+◌, ◌*◌, ◌/◌, ◌%◌, ◌^◌, ◌<◌, ◌≤◌, ◌++◌, ◌∷◌, [], length, map, All, IfOk, IfSome, OnOk};
 ghost use Rattle.std.specs.List.Sorted.{IsNonDecreasingBy};
 ghost use Rattle.definitions.specs.Trees.{AreTreesOf, chain_of};
 ghost use Rattle.definitions.specs.Sets.{IsSet, cell_of};
-ghost use Rattle.bounded_flow.specs.Edges.{wire};
 ghost use Rattle.bounded_flow.specs.Flows.{IsInside};
 ghost use Rattle.bounded_flow.specs.Loads.{IsLoaded, empty_edge, climbed, AreEnds, AreFirsts};
 ghost use Rattle.bounded_flow.specs.Nets.{side_sets};
@@ -135,23 +134,34 @@ pub fn load(edges: &mut [Edge], trees: &Trees, family: &Family, x: &Scaled)
     }
 }
 
-/// Both ends of each edge.
+/// Both ends of an edge.
+fn push_ends(ends: &mut Vec<End>, edge: &Edge, number: u32) -> Result<(), AllocError>
+    ensures { OnOk result (ends.new.items
+        ≡ (ends.old.items ++ record { node = edge.now.tail; edge = number } ∷ [])
+        ++ record { node = edge.now.head; edge = number } ∷ []) }
+{
+    ends.push(End {
+        node: edge.tail,
+        edge: number,
+    })?;
+    ends.push(End {
+        node: edge.head,
+        edge: number,
+    })?;
+    Ok(())
+}
+
+/// Both ends of each edge with a gap. An edge without one is never pushed, and no push gives it one.
 fn ends_of(alloc: Global, edges: &[Edge]) -> Result<Vec<End>, AllocError>
     requires { length edges.now ≤ 203000 }
-    ensures ends { IfOk result (λ ends. AreEnds (map wire edges.now) (length edges.now) ends.items) }
-    ensures few { IfOk result (λ ends. length ends.items ≡ 2 * length edges.now) }
+    ensures ends { IfOk result (λ ends. AreEnds edges.now (length edges.now) ends.items) }
+    ensures few { IfOk result (λ ends. length ends.items ≤ 2 * length edges.now) }
 {
     let mut ends = Vec::new(alloc);
     for (index, edge) in edges.iter().enumerate() {
-        let number = index as u32;
-        ends.push(End {
-            node: edge.tail,
-            edge: number,
-        })?;
-        ends.push(End {
-            node: edge.head,
-            edge: number,
-        })?;
+        if edge.is_off() {
+            push_ends(&mut ends, edge, index as u32)?;
+        }
     }
     Ok(ends)
 }
@@ -169,11 +179,11 @@ fn firsts_of(alloc: Global, ends: &[End], nodes: u32) -> Result<Vec<u32>, AllocE
     Ok(first)
 }
 
-/// The ends of the edges in order of their nodes.
+/// The ends of the edges with a gap in order of their nodes.
 pub fn adjacency_of(alloc: Global, edges: &[Edge], nodes: u32) -> Result<Adjacency, AllocError>
     requires inside { All (IsInside nodes) edges.now }
     requires few { length edges.now ≤ 203000 }
-    ensures { IfOk result (λ a. IsAdjacency nodes a (map wire edges.now)) }
+    ensures { IfOk result (λ a. IsAdjacency nodes a edges.now) }
 {
     let mut ends = ends_of(alloc, edges)?;
     ends.sort()?;

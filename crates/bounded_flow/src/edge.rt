@@ -1,6 +1,6 @@
 // One edge of the graph: a cell or a set.
 
-ghost use Rattle.std.specs.Prelude.{◌≡◌, ◌+◌, ◌<◌, ◌≤◌, ◌^◌, MatchOption};
+ghost use Rattle.std.specs.Prelude.{◌≡◌, ◌+◌, ◌<◌, ◌≤◌, ◌^◌, ◌↔◌, IsTrue, MatchOption};
 ghost use Rattle.bounded_flow.specs.Edges.{IsSound, Pushed, Leads, LeadsNowhere, rest_of, gap_of, enters, leaves};
 
 /// A cell or a set: its whole units, and how far the weight left times them is under or over its remainder. One of the two is 0.
@@ -21,6 +21,13 @@ impl Edge {
         ensures { result ≡ gap_of self.now }
     {
         self.under + self.over
+    }
+
+    /// Whether the whole units aren't the share, so that there is a gap.
+    pub fn is_off(&self) -> bool
+        ensures { IsTrue result ↔ (0 < gap_of self.now) }
+    {
+        self.under > 0 || self.over > 0
     }
 
     /// The remainder, over the weight left.
@@ -50,7 +57,7 @@ impl Edge {
     pub fn leads(&self, node: u32) -> Option<u32>
         ensures { MatchOption result (LeadsNowhere self.now node) (Leads self.now node) }
     {
-        if (self.under > 0 || self.over > 0) && self.leaves() == node {
+        if self.is_off() && self.leaves() == node {
             Some(self.enters())
         } else {
             None

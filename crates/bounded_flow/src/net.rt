@@ -10,9 +10,10 @@ ghost use Rattle.bounded_flow.specs.Nets.{IsNet, IsNetOf, net_sets};
 use crate::building::{adjacency_of, edges_of, load, sets_of};
 use crate::edge::Edge;
 use crate::held::HeldSet;
-use crate::repair::{greatest_gap, settle};
+use crate::repair::{gaps_of, greatest_gap, settle};
 use crate::search::{Adjacency, Search};
 use bihierarchy::Trees;
+use key_queue::{Falling, Queue};
 use quota_sets::{Cell, Family, NoMemory, Scaled};
 use std::alloc::{AllocError, Global};
 use std::marker::Model;
@@ -28,6 +29,7 @@ pub struct Net {
     columns: u32,
     sets: Vec<HeldSet>,
     edges: Vec<Edge>,
+    gaps: Queue<Falling>,
     adjacency: Adjacency,
     search: Search,
     left: u128,
@@ -37,13 +39,13 @@ impl Model for Net {
     ghost use Rattle.std.specs.Prelude.{map, take, ◌*◌};
     ghost use Rattle.bounded_flow.specs.Edges.{rest_of};
     ghost use Rattle.bounded_flow.specs.Nets.{NetValue};
-    ghost use Rattle.bounded_flow.specs.Webs.{IsWeb, held_sets};
+    ghost use Rattle.bounded_flow.specs.Webs.{IsRankedWeb, held_sets};
 
     ghost Value = { NetValue };
 
     ghost view = { λ n. record { agents = n.agents; columns = n.columns; sets = held_sets n.sets.items; rest = map (rest_of n.left) (take (n.agents * n.columns) n.edges.items); left = n.left; whole = map (λ e. e.whole) (take (n.agents * n.columns) n.edges.items) } };
 
-    ghost invariant = { λ n. IsWeb n.agents n.columns n.left (held_sets n.sets.items) n.edges.items n.adjacency n.search };
+    ghost invariant = { λ n. IsRankedWeb n.agents n.columns n.left (held_sets n.sets.items) n.edges.items n.gaps n.adjacency n.search };
 }
 
 /// Where a cell stands row by row.
@@ -75,19 +77,22 @@ impl Net {
         ensures lawful { IfOk result IsNet }
     {
         let nodes = family.len() + 1;
+        let left = x.denominator();
         let sets = sets_of(alloc, family)?;
         let mut edges = edges_of(alloc, trees, family)?;
         load(&mut edges, trees, family, x);
         let adjacency = adjacency_of(alloc, &edges, nodes)?;
+        let gaps = gaps_of(alloc, &edges)?;
         let search = Search::new(alloc, nodes)?;
         Ok(Net {
             agents: family.agents(),
             columns: family.columns(),
             sets,
             edges,
+            gaps,
             adjacency,
             search,
-            left: x.denominator(),
+            left,
         })
     }
 
@@ -100,6 +105,7 @@ impl Net {
     {
         settle(
             &mut self.edges,
+            &mut self.gaps,
             &self.adjacency,
             &mut self.search,
             self.left,
@@ -117,7 +123,7 @@ impl Net {
         ensures tight { result < self.now.left → IsTight self.now.columns (net_sets self.now) self.now.rest self.now.left self.now.whole result }
         ensures lawful { IsNet self.now }
     {
-        self.left - greatest_gap(&self.edges)
+        self.left - greatest_gap(&self.gaps)
     }
 
     /// Takes the whole matrix off what is left, with a weight at which each cell and each set keeps within its bounds. The whole

@@ -1,8 +1,7 @@
 // The search for a way along edges that may be pushed.
 
-ghost use Rattle.std.specs.Prelude.{◌≡◌, ℕ, ◌+◌, ◌<◌, ◌≤◌, ◌^◌, ◌⊎◌, ◌↔◌, List, length, map, All, IfOk, IsTrue, slice_index, slice_set};
+ghost use Rattle.std.specs.Prelude.{◌≡◌, ℕ, ◌+◌, ◌<◌, ◌≤◌, ◌^◌, ◌⊎◌, ◌↔◌, List, length, All, IfOk, IsTrue, slice_index, slice_set};
 ghost use Rattle.bounded_flow.specs.declared.edge.Edge.{Edge};
-ghost use Rattle.bounded_flow.specs.Edges.{wire};
 ghost use Rattle.bounded_flow.specs.Flows.{IsInside};
 ghost use Rattle.bounded_flow.specs.Searches.{IsAdjacency, HasRoom, Marked, Reached, IsLater, IsFollowed, IsExplored};
 
@@ -16,7 +15,8 @@ pub struct End {
     pub edge: u32,
 }
 
-/// The ends of all edges in order of their nodes, and for each node the place from which on no smaller node stands.
+/// Ends of edges in order of their nodes, among them both ends of each edge with a gap; and for each node the place
+/// from which on no smaller node stands.
 #[derive(Debug, Drop)]
 pub struct Adjacency {
     pub ends: Vec<End>,
@@ -110,7 +110,7 @@ fn visit(edges: &[Edge], search: &mut Search, node: u32, edge: u32)
 
 /// Sees the nodes to which edges may be pushed from `node`.
 fn look(edges: &[Edge], adjacency: &Adjacency, search: &mut Search, node: u32)
-    requires adjacent { IsAdjacency (length search.old.place.items) adjacency.now (map wire edges.now) }
+    requires adjacent { IsAdjacency (length search.old.place.items) adjacency.now edges.now }
     requires reached { Reached edges.now (length search.old.place.items) search.old }
     requires inside { All (IsInside (length search.old.place.items)) edges.now }
     requires here { (node < length search.old.place.items) × (slice_index search.old.place.items node < search.old.seen) }
@@ -129,7 +129,7 @@ fn look(edges: &[Edge], adjacency: &Adjacency, search: &mut Search, node: u32)
 /// Searches for a way from one node to another along edges that may be pushed. Either the second node is seen, or all that can
 /// be reached is.
 pub fn find(edges: &[Edge], adjacency: &Adjacency, search: &mut Search, from: u32, to: u32)
-    requires adjacent { IsAdjacency (length search.old.place.items) adjacency.now (map wire edges.now) }
+    requires adjacent { IsAdjacency (length search.old.place.items) adjacency.now edges.now }
     requires room { HasRoom (length search.old.place.items) search.old }
     requires inside { All (IsInside (length search.old.place.items)) edges.now }
     requires start { from < length search.old.place.items }

@@ -1,10 +1,11 @@
 // What no contract says: a net is made, and it is rounded the same again and from no whole units on.
 // Tests of whole runs have the pieces of worked matrices.
-ghost use Rattle.std.specs.Prelude.{◌≡◌, ◌+◌, ◌≤◌, ◌^◌, ◌⊎◌, ◌∷◌, [], All, length, map, IfOk};
+ghost use Rattle.std.specs.Prelude.{◌≡◌, ◌+◌, ◌≤◌, ◌^◌, ◌⊎◌, ◌∷◌, [], All, length, map, IfOk, OnOk};
 ghost use Rattle.definitions.specs.Sets.{cell_of, IsBefore};
 ghost use Rattle.bounded_flow.specs.Edges.{IsSound, rest_of, wire};
 
 use super::*;
+use crate::repair::rank;
 use quota_sets::QuotaSet;
 use std::test::Fail;
 
@@ -106,12 +107,18 @@ fn reset(edges: &mut [Edge], left: u128)
 }
 
 // Rounds from no whole units on.
-fn round_cold(net: &mut Net)
+fn round_cold(alloc: Global, net: &mut Net) -> Result<(), AllocError>
     requires { 1 ≤ net.old.left }
-    ensures { (net.new.agents ≡ net.old.agents) × (net.new.columns ≡ net.old.columns) }
+    ensures { OnOk result ((net.new.agents ≡ net.old.agents) × (net.new.columns ≡ net.old.columns)) }
 {
-    reset(&mut net.edges, net.left);
+    let mut edges = net.edges.to_vec(alloc)?;
+    reset(&mut edges, net.left);
+    let adjacency = adjacency_of(alloc, &edges, net.sets.len() as u32 + 1)?;
+    net.adjacency = adjacency;
+    rank(&edges, &mut net.gaps);
+    net.edges = edges;
     net.round();
+    Ok(())
 }
 
 #[test]
@@ -123,7 +130,7 @@ fn cold_as_warm(rt: HostRuntime) -> Result<(), Fail> {
     assert_eq!(rt; wholes(&cold), wholes(&warm));
 
     warm.round();
-    round_cold(&mut cold);
+    round_cold(rt.alloc(), &mut cold)?;
     assert_eq!(rt; wholes(&cold), wholes(&warm));
     Ok(())
 }

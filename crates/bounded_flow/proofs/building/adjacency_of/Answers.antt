@@ -1,8 +1,6 @@
-use Rattle.std.proofs.Common.{arith, sym, length}
-use Rattle.std.proofs.lemmas.List.{length-map}
+use Rattle.std.proofs.Common.{arith, sym}
 use Rattle.std.proofs.lemmas.List.Sorted.{IsNonDecreasingBy-from_all_adjacent}
 use Rattle.bounded_flow.specs.declared.search.End.{End}
-use Rattle.bounded_flow.specs.Edges.{wire}
 use Rattle.bounded_flow.proofs.Adjacent.{no_less_node, adjacency_made}
 use Rattle.bounded_flow.proofs.building.adjacency_of.Goals as goal
 
@@ -12,7 +10,7 @@ firsts_of-requires-clause-order c =
 
 pub returns : goal.returns
 returns c =
-    adjacency_made c.args.nodes _ (length c.args.edges.now) c.in_ok-ends.ends.items (record { ends = c.sort.new.self; first = c.in_ok-first.first }) (sym (length-map c.args.edges.now wire))
+    adjacency_made c.args.nodes c.args.edges.now c.in_ok-ends.ends.items (record { ends = c.sort.new.self; first = c.in_ok-first.first })
     c.in_ok-ends.ensures.ends c.in_ok-sort.ensures.permutation
     (IsNonDecreasingBy-from_all_adjacent (λ (e : End). e.node) c.sort.new.self.items (λ k d l. no_less_node _ _ _ (c.in_ok-sort.ensures.sorted k d (omega arith) l)))
     (rw (sym c.deref.ensures.value) c.in_ok-first.ensures)

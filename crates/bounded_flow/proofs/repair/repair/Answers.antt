@@ -42,10 +42,10 @@ pub returns-clause-flow : goal.returns-clause-flow
 returns-clause-flow c =
     let d : Edge = record { tail = 0; head = 0; whole = 0; under = 0; over = 0 } in
     (both c.args.left (length c.args.search.now.place.items) (length c.find.new.search.place.items) c.args.index c.enters-from.result c.leaves-to.result c.args.edges.now c.walk.new.edges d c.push.new.self c.find.ensures.reached.room.places
-    c.requires.flow c.walk.ensures c.requires.known c.requires.one (c.requires.off d) c.enters-from.ensures c.leaves-to.ensures c.push.ensures.sound c.push.ensures.pushed).0
+    c.requires.flow c.walk.ensures.walk c.requires.known c.requires.one (c.requires.off d) c.enters-from.ensures c.leaves-to.ensures c.push.ensures.sound c.push.ensures.pushed).0
 
 pub returns-clause-repair : goal.returns-clause-repair
 returns-clause-repair c =
     let d : Edge = record { tail = 0; head = 0; whole = 0; under = 0; over = 0 } in
     (both c.args.left (length c.args.search.now.place.items) (length c.find.new.search.place.items) c.args.index c.enters-from.result c.leaves-to.result c.args.edges.now c.walk.new.edges d c.push.new.self c.find.ensures.reached.room.places
-    c.requires.flow c.walk.ensures c.requires.known c.requires.one (c.requires.off d) c.enters-from.ensures c.leaves-to.ensures c.push.ensures.sound c.push.ensures.pushed).1
+    c.requires.flow c.walk.ensures.walk c.requires.known c.requires.one (c.requires.off d) c.enters-from.ensures c.leaves-to.ensures c.push.ensures.sound c.push.ensures.pushed).1

@@ -1,4 +1,4 @@
-use Rattle.std.proofs.Common.{◌≡◌, ◌<◌, ◌≤◌, List, length, arith, ap, sym, ◌∙◌, All}
+use Rattle.std.proofs.Common.{subst, ◌≡◌, ◌<◌, ◌≤◌, List, length, arith, ap, sym, ◌∙◌, All}
 use Rattle.std.specs.Vec.{with_items}
 use Rattle.std.proofs.lemmas.List.{with_items_is}
 use Rattle.bounded_flow.specs.declared.edge.Edge.{Edge}
@@ -8,6 +8,7 @@ use Rattle.bounded_flow.specs.Edges.{gap_of}
 use Rattle.bounded_flow.specs.Flows.{IsFlow, IsRepair}
 use Rattle.bounded_flow.specs.Nets.{NetValue}
 use Rattle.bounded_flow.specs.Searches.{HasRoom}
+use Rattle.bounded_flow.specs.Ranks.{IsRanked}
 use Rattle.bounded_flow.proofs.Balances.{wires_many}
 use Rattle.bounded_flow.proofs.Settled.{IsSettled, settled_held, settled_lawful, settled_round, settled_stays}
 use Rattle.bounded_flow.proofs.Shown.{shown}
@@ -32,14 +33,18 @@ pub invariant_of-self : goal.invariant_of-self
 invariant_of-self c =
     let n = c.self.inside in
     let repairs = c.settle.ensures in
-    settled_held n c.self.invariant c.deref_mut.result.now c.settle.new.edges (with_items n.edges c.settle.new.edges).items c.settle.new.search
-    (settled_of n c.deref_mut.result.now c.settle.new.edges c.settle.new.search c.deref_mut.ensures.value repairs.room repairs.flow repairs.repair repairs.settled)
+    let settled = settled_of n c.deref_mut.result.now c.settle.new.edges c.settle.new.search c.deref_mut.ensures.value repairs.room repairs.flow repairs.repair repairs.settled in
+    record {
+      ranked = subst (λ (es : List Edge). IsRanked es c.settle.new.gaps) (sym settled.written) repairs.ranked;
+      web = settled_held n c.self.invariant.web c.deref_mut.result.now c.settle.new.edges (with_items n.edges c.settle.new.edges).items c.settle.new.search
+          (settled_of n c.deref_mut.result.now c.settle.new.edges c.settle.new.search c.deref_mut.ensures.value repairs.room repairs.flow repairs.repair repairs.settled);
+    }
 
 pub returns-clause-rounds : goal.returns-clause-rounds
 returns-clause-rounds c =
     let n = c.self.inside in
     let repairs = c.settle.ensures in
-    settled_round n c.self.invariant c.deref_mut.result.now c.settle.new.edges (with_items n.edges c.settle.new.edges).items c.settle.new.search
+    settled_round n c.self.invariant.web c.deref_mut.result.now c.settle.new.edges (with_items n.edges c.settle.new.edges).items c.settle.new.search
     (settled_of n c.deref_mut.result.now c.settle.new.edges c.settle.new.search c.deref_mut.ensures.value repairs.room repairs.flow repairs.repair repairs.settled)
     (some n c.args.self.now c.self.view_is c.requires)
 
@@ -47,7 +52,7 @@ pub returns-clause-stays : goal.returns-clause-stays
 returns-clause-stays c =
     let n = c.self.inside in
     let repairs = c.settle.ensures in
-    settled_stays n c.self.invariant c.deref_mut.result.now c.settle.new.edges (with_items n.edges c.settle.new.edges).items c.settle.new.search
+    settled_stays n c.self.invariant.web c.deref_mut.result.now c.settle.new.edges (with_items n.edges c.settle.new.edges).items c.settle.new.search
     (settled_of n c.deref_mut.result.now c.settle.new.edges c.settle.new.search c.deref_mut.ensures.value repairs.room repairs.flow repairs.repair repairs.settled)
     c.args.self.now c.self.view_is
 
@@ -55,5 +60,5 @@ pub returns-clause-lawful : goal.returns-clause-lawful
 returns-clause-lawful c =
     let n = c.self.inside in
     let repairs = c.settle.ensures in
-    settled_lawful n c.self.invariant c.deref_mut.result.now c.settle.new.edges (with_items n.edges c.settle.new.edges).items c.settle.new.search
+    settled_lawful n c.self.invariant.web c.deref_mut.result.now c.settle.new.edges (with_items n.edges c.settle.new.edges).items c.settle.new.search
     (settled_of n c.deref_mut.result.now c.settle.new.edges c.settle.new.search c.deref_mut.ensures.value repairs.room repairs.flow repairs.repair repairs.settled)

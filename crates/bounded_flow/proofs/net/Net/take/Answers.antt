@@ -8,13 +8,15 @@ takeable : (v : NetValue) (w : ℕ) → IsRound v → 1 ≤ w → w ≤ v.left �
 takeable v w rounds one most fits = record { rounds = rounds; one = one; most = most; fits = fits }
 
 pub invariant_of-self : goal.invariant_of-self
-invariant_of-self c =
-    taken_held c.self.inside c.args.self.now c.args.weight c.self.view_is c.self.invariant (takeable c.args.self.now c.args.weight c.requires.rounds c.requires.one c.requires.most c.requires.fits)
+invariant_of-self c = record {
+  ranked = c.self.invariant.ranked;
+  web = taken_held c.self.inside c.args.self.now c.args.weight c.self.view_is c.self.invariant.web (takeable c.args.self.now c.args.weight c.requires.rounds c.requires.one c.requires.most c.requires.fits);
+}
 
 pub returns-clause-rest : goal.returns-clause-rest
 returns-clause-rest c =
-    taken_rest c.self.inside c.args.self.now c.args.weight c.self.view_is c.self.invariant (takeable c.args.self.now c.args.weight c.requires.rounds c.requires.one c.requires.most c.requires.fits)
+    taken_rest c.self.inside c.args.self.now c.args.weight c.self.view_is c.self.invariant.web (takeable c.args.self.now c.args.weight c.requires.rounds c.requires.one c.requires.most c.requires.fits)
 
 pub returns-clause-lawful : goal.returns-clause-lawful
 returns-clause-lawful c =
-    taken_lawful c.self.inside c.args.self.now c.args.weight c.self.view_is c.self.invariant (takeable c.args.self.now c.args.weight c.requires.rounds c.requires.one c.requires.most c.requires.fits)
+    taken_lawful c.self.inside c.args.self.now c.args.weight c.self.view_is c.self.invariant.web (takeable c.args.self.now c.args.weight c.requires.rounds c.requires.one c.requires.most c.requires.fits)

@@ -1,0 +1,7 @@
+mod EntryFacts
+mod Joins
+pub mod Kept
+mod Orders
+mod Permuted
+pub mod ReadOnce
+mod RecordFacts

@@ -1,0 +1,6 @@
+pub mod Commitments
+pub mod Kinds
+pub mod Said
+pub mod Checks
+pub mod Pacts
+pub mod Reading

@@ -17,7 +17,7 @@ use Rattle.cert_check.proofs.Gains.{IsSmallWorth}
 use Rattle.cert_check.proofs.PiecePass.{pass_pieces, pieces_pass}
 use Rattle.cert_check.proofs.PricePass.{neither, pass_prices, passes, prices_pass}
 use Rattle.cert_check.proofs.ShapePass.{shape_verdict}
-use Rattle.cert_check.proofs.SumBounds.{stated_length}
+use Rattle.definitions.proofs.Families.{stated_count}
 use Rattle.definitions.specs.Certificate.{HasShapeOf}
 use Rattle.definitions.specs.Lotteries.{HasNoPrices, HasPrices, LotteryValue, ends_with_none, matrices_of}
 use Rattle.definitions.specs.Pieces.{Decomposes}
@@ -118,7 +118,7 @@ module _ (p : ProblemValue) (l : LotteryValue) (h : IsProblem p) (w : IsLawfulLo
 
   pub shape_of_problem : HasShapeOf p (prices_of l)
   shape_of_problem = record {
-    prices = sym s.prices_many ∙ sym (stated_length p h);
+    prices = sym s.prices_many ∙ sym (stated_count p h);
     lists = AllZip-long (IsRanking (length l.columns)) l.lists (prices_of l).worth lists ∙ ap (λ (ls : List (List ℕ)). length ls) (sym s.lists_same);
     places = λ i inside.
         subst (λ (ls : List (List ℕ)). length (worths_of (prices_of l) i) ≡ length (unwrap_or (slice_get ls i) [])) (sym s.lists_same)
@@ -169,7 +169,7 @@ module _ (p : ProblemValue) (l : LotteryValue) (s : IsSound p l) where
   has_shape = record {
     agents_same = sym s.agents;
     columns_same = sym s.columns;
-    prices_many = sym (stated_length p s.problem) ∙ sym s.certified.shape.prices ∙ ap (λ (y : PricesValue). length y.price) (sym is_prices);
+    prices_many = sym (stated_count p s.problem) ∙ sym s.certified.shape.prices ∙ ap (λ (y : PricesValue). length y.price) (sym is_prices);
     lists_same = sym s.lists;
   }
 

@@ -11,14 +11,19 @@ ghost use Rattle.lottery_file.specs.Lotteries.{IsLawfulLottery, lottery_value};
 use crate::verdicts::{PASS, passed};
 use alloc_outcomes::{Cause, write_text};
 use alloc_readings::{lottery_from, problem_from, trees_from};
-use cert_check::{Fault, check_pieces, check_prices, check_shape};
+use cert_check::{Fault, check_pieces_in, check_prices, check_shape};
 use device_core::Sink;
 use lottery_file::Lottery;
 use quota_sets::{Prices, Problem};
 use std::alloc::Global;
 
 // The first check that fails. The prices are the lottery's, and empty where it has none.
-fn first_fault(problem: &Problem, lottery: &Lottery, prices: &Prices) -> Result<(), Fault>
+fn first_fault(
+    alloc: Global,
+    problem: &Problem,
+    lottery: &Lottery,
+    prices: &Prices,
+) -> Result<(), Fault>
     requires prices { prices_value prices.now ≡ prices_of (lottery_value lottery.now) }
     requires lawful { IsLawfulLottery (lottery_value lottery.now) }
     ensures first { result ≡ result_at (audit_fault problem.now (lottery_value lottery.now)) }
@@ -28,7 +33,7 @@ fn first_fault(problem: &Problem, lottery: &Lottery, prices: &Prices) -> Result<
     let (agents, columns) = (&lottery.agents, &lottery.columns);
     passed(check_shape(problem, agents, columns, &lottery.lists, prices))?;
     passed(check_prices(problem, &lottery.shares, prices))?;
-    passed(check_pieces(family, &lottery.shares, &lottery.pieces))
+    passed(check_pieces_in(alloc, family, &lottery.shares, &lottery.pieces))
 }
 
 // The same. A lottery without prices is checked with none, and fails check 1 or 2, since its last
@@ -39,13 +44,13 @@ fn audit(alloc: Global, problem: &Problem, lottery: &Lottery) -> Result<(), Faul
     ensures problem { IsProblem problem.now }
 {
     match &lottery.prices {
-        Some(prices) => first_fault(problem, lottery, prices),
+        Some(prices) => first_fault(alloc, problem, lottery, prices),
         None => {
             let none = Prices {
                 price: Vec::new(alloc),
                 worth: Vec::new(alloc),
             };
-            first_fault(problem, lottery, &none)
+            first_fault(alloc, problem, lottery, &none)
         }
     }
 }

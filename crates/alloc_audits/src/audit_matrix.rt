@@ -17,7 +17,7 @@ use alloc_outcomes::{Cause, write_text};
 use alloc_readings::{
     check_quotas, family_from, lottery_from, scaled_from, shares_from, trees_from,
 };
-use cert_check::{Fault, check_matrix, check_pieces};
+use cert_check::{Fault, check_matrix, check_pieces_in};
 use device_core::Sink;
 use lottery_file::Lottery;
 use quota_sets::{Family, Scaled};
@@ -25,7 +25,13 @@ use scaled_matrix::Shares;
 use std::alloc::Global;
 
 // The first check that fails, where x are the shares in units.
-fn first_fault(shares: &Shares, x: &Scaled, family: &Family, lottery: &Lottery) -> Result<(), Fault>
+fn first_fault(
+    alloc: Global,
+    shares: &Shares,
+    x: &Scaled,
+    family: &Family,
+    lottery: &Lottery,
+) -> Result<(), Fault>
     requires shares { IsMatrix shares.now }
     requires units { IsScaled shares.now x.now }
     requires matrix { IsScaledMatrix x.now }
@@ -40,11 +46,12 @@ fn first_fault(shares: &Shares, x: &Scaled, family: &Family, lottery: &Lottery) 
     let (agents, columns) = (&lottery.agents, &lottery.columns);
     check_names(shares.agents(), shares.objects(), agents, columns)?;
     passed(check_matrix(x, &lottery.shares))?;
-    passed(check_pieces(family, &lottery.shares, &lottery.pieces))
+    passed(check_pieces_in(alloc, family, &lottery.shares, &lottery.pieces))
 }
 
 // Whether the lottery splits the shares.
 fn check_lottery(
+    alloc: Global,
     shares: &Shares,
     x: &Scaled,
     family: &Family,
@@ -59,7 +66,7 @@ fn check_lottery(
     ensures { Checked (λ _. tt) audit_cause
         (SplitsOrFails shares.now x.now family.now (lottery_value lottery.now)) result }
 {
-    match first_fault(shares, x, family, lottery) {
+    match first_fault(alloc, shares, x, family, lottery) {
         Ok(()) => Ok(()),
         Err(fault) => Err(Cause::AuditFailed(fault)),
     }
@@ -83,6 +90,6 @@ pub fn step<K: Sink>(
     trees_from(alloc, &family)?;
     check_quotas(&x, &family)?;
     let lottery = lottery_from(alloc, bytes)?;
-    check_lottery(&shares, &x, &family, &lottery)?;
+    check_lottery(alloc, &shares, &x, &family, &lottery)?;
     write_text(PASS, out)
 }

@@ -1,25 +1,10 @@
 // Checks 1 and 2 for given shares: the names of agents and of columns are those given.
-ghost use Rattle.std.specs.Prelude.{◌≡◌, ◌≤◌, length, slice_get};
-ghost use Rattle.std.specs.Str.{bytes_eq};
+ghost use Rattle.std.specs.Prelude.{◌≡◌, ◌≤◌, length};
 ghost use Rattle.alloc_audits.specs.NameFaults.{first_difference, first_name_fault, name_look};
 ghost use Rattle.alloc_audits.specs.Verdicts.{result_at};
-ghost use Rattle.cert_check.specs.ShapeFaults.{same_entry};
 
-use cert_check::Fault;
+use cert_check::{Fault, is_same_name};
 use quota_sets::Names;
-
-// Whether two lists of names have the same at a place, or both none.
-fn is_same_name(due: &Names, found: &Names, place: u32) -> bool
-    ensures { result ≡ same_entry bytes_eq (slice_get due.now place) (slice_get found.now place) }
-{
-    match due.at(place) {
-        Some(name) => match found.at(place) {
-            Some(other) => name == other,
-            None => false,
-        },
-        None => found.at(place).is_none(),
-    }
-}
 
 // The place, from 1, where the lists differ there.
 fn difference_at(due: &Names, found: &Names, place: u32) -> Option<u32>

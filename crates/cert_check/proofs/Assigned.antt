@@ -4,7 +4,7 @@ use Rattle.std.specs.Prelude.{slice_get, nat_eq, nat_lt}
 use Rattle.std.specs.Set.{is_member}
 use Rattle.std.proofs.lemmas.Bool.{cases_lt, not-true, ltb-false, and_parts, eqb-true, le-ltb, lt-ltb, ltb-true, both_ways, eq-eqb}
 use Rattle.std.proofs.lemmas.Option.{slice_get-get_or}
-use Rattle.std.proofs.lemmas.List.{get_or_past, length-take}
+use Rattle.std.proofs.lemmas.List.{get_or_past}
 use Rattle.std.proofs.lemmas.List.Elements.{All-from_get_or}
 use Rattle.std.proofs.lemmas.List.Sums.{sum_by-cons}
 use Rattle.std.proofs.Math.Nat.{mul-le-mul_right}
@@ -16,7 +16,7 @@ use Rattle.definitions.proofs.Sums.{unit_at_within, unit_at_past}
 use Rattle.definitions.specs.Laws.{limit_of_set, limit_of_cell, capped_cells}
 use Rattle.definitions.proofs.Capped.{each_limit, capped_below}
 use Rattle.std.proofs.lemmas.List.Elements.{filter_passes}
-use Rattle.definitions.proofs.Families.{sets_of_problem}
+use Rattle.definitions.proofs.Families.{stated_count}
 use Rattle.definitions.proofs.Listed.{listed_column, column_listed}
 use Rattle.certificate_laws.proofs.Limits.{IsKept, stated_kept, capped_kept}
 use Rattle.cert_check.specs.PriceFaults.{IsMatrixOf, row_look, off_list_look, ceiling_look, cap_look, row_fault, off_list_fault, ceiling_fault, cap_fault, stated_at, stated_sum, stated_room, no_set}
@@ -69,12 +69,8 @@ module _ (p : ProblemValue) (x : ScaledValue) (h : IsProblem p) (m : IsScaledMat
       let none : units_of x (cell_of i a) ≡ 0 = g (cell_of i a) (off_list i a (not-true (is_member nat_eq (list_at p i) a) parts.0)) in
       omega (arith, some, none))))
 
-  -- the stated sets are the first of the family
-  pub stated_count : length (stated_sets p) ≡ p.stated
-  stated_count = omega (arith, length-take p.stated p.family.sets, sets_of_problem p h)
-
   pub stated_found : (k : ℕ) → k < p.stated → slice_get (stated_sets p) k ≡ Some (stated_at p k)
-  stated_found k l = slice_get-get_or (stated_sets p) k no_set (omega (arith, stated_count))
+  stated_found k l = slice_get-get_or (stated_sets p) k no_set (omega (arith, stated_count p h))
 
   ceilings : ceiling_fault p x ≡ None → (k : ℕ) → k < p.stated → stated_sum p x k ≤ stated_room p x k
   ceilings e k l = ltb-false (stated_room p x k) (stated_sum p x k) (quiet _ _ (quiet_at (ceiling_look p x) p.stated e k l))
@@ -99,7 +95,7 @@ module _ (p : ProblemValue) (x : ScaledValue) (h : IsProblem p) (m : IsScaledMat
       → All (IsKept (units_of x) x.denominator) (limits_of p)
   kept f g =
       each_limit p h (IsKept (units_of x) x.denominator)
-      (All-from_get_or (λ q. IsKept (units_of x) x.denominator (limit_of_set q)) (stated_sets p) no_set (λ k l. f k (omega (arith, stated_count p x h m s))))
+      (All-from_get_or (λ q. IsKept (units_of x) x.denominator (limit_of_set q)) (stated_sets p) no_set (λ k l. f k (omega (arith, stated_count p h))))
       (λ k d l. cell_kept (get_or (capped_cells p) k d) (filter_passes (is_capped p) (listed_cells p) k d l))
     where
       cell_kept : (c : Cell) → is_capped p c ≡ true → IsKept (units_of x) x.denominator (limit_of_cell c)

@@ -26,7 +26,7 @@ use Rattle.cert_check.specs.Verdicts.{verdict_of}
 use Rattle.cert_check.specs.PriceFaults.{no_set}
 use Rattle.cert_check.specs.PieceFaults.{IsMatrixFor, ArePiecesFor, no_piece, gives_at, cells_in_set, is_rounded, piece_bound, same_give, cell_look, set_look, same_look, met_look, given_units, many_fault, cell_fault_in, cell_fault, set_fault, same_fault, met_fault, first_piece_fault}
 use Rattle.cert_check.proofs.Quiet.{quiet, silent, not_false, false_by, quiet_at, silent_at, quiet_in, silent_in}
-use Rattle.cert_check.specs.GiveOrder.{AreDistinct}
+use Rattle.cert_check.specs.GiveOrder.{IsUnlikeLater}
 use Rattle.cert_check.proofs.Canonical.{canonical}
 use Rattle.cert_check.proofs.PieceCounts.{lawful_at}
 use Rattle.cert_check.proofs.PricePass.{passes, neither}
@@ -70,9 +70,9 @@ module _ (ps : List PieceValue) where
   same_silent g = silent_at (λ a. first_in (same_look ps a) (a + 1) (length ps - (a + 1))) (length ps)
       (λ a l. none-in (same_look ps a) (a + 1) (length ps - (a + 1)) (λ b low high. g a b (omega arith) (omega arith)))
 
-  -- where no two give the same, check 16 finds nothing
-  pub distinct_silent : AreDistinct ps → same_fault ps ≡ None
-  distinct_silent h = same_silent (λ a b l k. silent _ _ (false_by _ (λ t. h a b l k ((gives_decide (gives_at ps a) (gives_at ps b)).0 t))))
+  -- check 16 finds nothing at a piece that no later one equals
+  pub unlike_silent : (a : ℕ) → IsUnlikeLater ps a → first_in (same_look ps a) (a + 1) (length ps - (a + 1)) ≡ None
+  unlike_silent a h = none-in (same_look ps a) (a + 1) (length ps - (a + 1)) (λ b low high. silent _ _ (false_by _ (λ t. h b (omega (arith, low)) (omega (arith, high)) ((gives_decide (gives_at ps a) (gives_at ps b)).0 t))))
 
 -- the matrix of gives, at an index and at a cell
 at_index : (agents columns : ℕ) (gs : List Give) (i : ℕ) (d : Cell) → i < agents * columns → slice_index (matrix_of agents columns gs) i ≡ piece_count gs (get_or (all_cells agents columns) i d)

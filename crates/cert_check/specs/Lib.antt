@@ -1,8 +1,10 @@
 pub mod Faults
 pub mod GiveOrder
+pub mod HolderTables
 pub mod MatrixFaults
 pub mod PieceFaults
-pub mod PricePass
 pub mod PriceFaults
+pub mod PricePass
 pub mod ShapeFaults
+pub mod TotalTables
 pub mod Verdicts

@@ -1,26 +1,29 @@
-//! Whether no two pieces give the same, by a sort: with memory for a number for each piece, and in the time of sorting.
-//!
-//! Check 16 looks at each pair of pieces, which takes time with the square of their number. Where it is known before that no two are equal,
-//! `check_distinct_pieces` leaves it out.
+//! Which pieces give something else than each later piece, by a sort: with memory for a number and a mark for
+//! each piece, and in the time of sorting.
 
 ghost use Rattle.std.specs.Prelude.{◌≡◌, ℕ, ◌<◌, ◌+◌, length, slice_index, true, IfOk, IsTrue};
 ghost use Rattle.cert_check.specs.PieceFaults.{gives_at, pieces_value};
-ghost use Rattle.cert_check.specs.GiveOrder.{AreDistinct, give_number, gives_before};
+ghost use Rattle.cert_check.specs.GiveOrder.{AreUnlike, IsOrder, IsUnlikeLater, comes_before, give_number, gives_before};
 
 use quota_sets::{Give, NoMemory, Pieces};
 use std::alloc::Global;
 use std::cmp::Ordering;
 
-/// Whether no two pieces give the same. `true` says so; `false` says nothing. It sorts the pieces' places by what the pieces give.
+/// For each piece whether it is known to give something else than each later one. `true` says so; `false` says
+/// nothing.
 ///
 /// # Errors
 /// `NoMemory` where there is no memory for a number for each piece.
-pub fn are_distinct(alloc: Global, pieces: &Pieces) -> Result<bool, NoMemory>
-    ensures { IfOk result (λ distinct. IsTrue distinct → AreDistinct (pieces_value pieces.now)) }
+pub fn unlike_later(alloc: Global, pieces: &Pieces) -> Result<Vec<bool>, NoMemory>
+    ensures { IfOk result (λ unlike. AreUnlike (pieces_value pieces.now) unlike.items) }
 {
     let mut order = places(alloc, pieces.list.len())?;
-    order.sort_unstable_by(|a, b| compare(gives_or_none(pieces, *a), gives_or_none(pieces, *b)));
-    Ok(rises(pieces, &order))
+    order.sort_unstable_by(|a, b| compare(pieces, *a, *b));
+    let mut unlike = vec![in alloc; false; pieces.list.len()]?;
+    if rises(pieces, &order) {
+        mark(pieces, &order, &mut unlike);
+    }
+    Ok(unlike)
 }
 
 // The numbers from 0 to the last before a count.
@@ -70,11 +73,20 @@ fn is_before(gives: &[Give], others: &[Give]) -> bool
     gives.len() < others.len()
 }
 
-// The order of gives. How it orders is free: `rises` looks at what it made.
-fn compare(gives: &[Give], others: &[Give]) -> Ordering {
-    if is_before(gives, others) {
+// Whether a piece comes before another: by what they give, and then by their places.
+fn comes_before(pieces: &Pieces, piece: usize, other: usize) -> bool
+    ensures { result ≡ comes_before (pieces_value pieces.now) piece other }
+{
+    let gives = gives_or_none(pieces, piece);
+    let others = gives_or_none(pieces, other);
+    is_before(gives, others) || gives == others && piece < other
+}
+
+// The order of two pieces. How it orders is free: `rises` looks at what it made.
+fn compare(pieces: &Pieces, piece: usize, other: usize) -> Ordering {
+    if comes_before(pieces, piece, other) {
         Ordering::Less
-    } else if is_before(others, gives) {
+    } else if comes_before(pieces, other, piece) {
         Ordering::Greater
     } else {
         Ordering::Equal
@@ -84,15 +96,40 @@ fn compare(gives: &[Give], others: &[Give]) -> Ordering {
 // Whether the pieces at each two neighbouring places of an order rise.
 fn rises(pieces: &Pieces, order: &[usize]) -> bool
     ensures { IsTrue result → (k : ℕ) → k + 1 < length order.now
-        → gives_before (gives_at (pieces_value pieces.now) (slice_index order.now k))
-        (gives_at (pieces_value pieces.now) (slice_index order.now (k + 1))) ≡ true }
+        → comes_before (pieces_value pieces.now) (slice_index order.now k)
+        (slice_index order.now (k + 1)) ≡ true }
 {
     for next in 1..order.len() {
-        let before = gives_or_none(pieces, order[next - 1]);
-        let after = gives_or_none(pieces, order[next]);
-        if !is_before(before, after) {
+        if !comes_before(pieces, order[next - 1], order[next]) {
             return false;
         }
     }
     true
+}
+
+// Whether the piece at a place of an order gives something else than the next. Then none that comes after it in the
+// order gives the same, and those before it that do are earlier pieces.
+fn differs_from_next(pieces: &Pieces, order: &[usize], place: usize) -> bool
+    requires order { IsOrder (pieces_value pieces.now) order.now }
+    requires place { place < length order.now }
+    ensures { IsTrue result → IsUnlikeLater (pieces_value pieces.now) (slice_index order.now place) }
+{
+    place + 1 == order.len()
+        || is_before(
+            gives_or_none(pieces, order[place]),
+            gives_or_none(pieces, order[place + 1]),
+        )
+}
+
+// Marks the pieces that give something else than each later one.
+fn mark(pieces: &Pieces, order: &[usize], unlike: &mut [bool])
+    requires order { IsOrder (pieces_value pieces.now) order.now }
+    requires unlike { AreUnlike (pieces_value pieces.now) unlike.old }
+    ensures { AreUnlike (pieces_value pieces.now) unlike.new }
+{
+    for i in 0..order.len() {
+        if differs_from_next(pieces, order, i) {
+            unlike[order[i]] = true;
+        }
+    }
 }

@@ -53,8 +53,8 @@ fn first_fault(
     lists_differ(problem, lists)
 }
 
-// Whether two lists of names have the same at a place, or both none.
-fn is_same_name(due: &Names, found: &Names, place: u32) -> bool
+/// Whether two lists of names have the same at a place, or both none.
+pub fn is_same_name(due: &Names, found: &Names, place: u32) -> bool
     ensures { result ≡ same_entry bytes_eq (slice_get due.now place) (slice_get found.now place) }
 {
     match due.at(place) {

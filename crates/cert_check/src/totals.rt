@@ -7,10 +7,12 @@ ghost use Rattle.cert_check.specs.PieceFaults.{ArePiecesOf, AreRising, AreTotals
 
 use crate::counts;
 use crate::faults::Fault;
+use crate::total_table::met_in_memory;
 use quota_sets::{Cell, Give, Pieces, Scaled};
+use std::alloc::Global;
 
 // The most columns that a matrix has.
-const COLUMNS: usize = 201;
+pub const COLUMNS: usize = 201;
 
 // What rising gives give one agent.
 fn gives_to(gives: &[Give], agent: u32) -> &[Give]
@@ -73,7 +75,7 @@ fn met_at(x: &Scaled, pieces: &Pieces, agent: u32, row: &[u128], object: u32) ->
 }
 
 // Check 17 in a row.
-fn met_in(x: &Scaled, pieces: &Pieces, agent: u32, row: &[u128]) -> Option<Fault>
+pub fn met_in(x: &Scaled, pieces: &Pieces, agent: u32, row: &[u128]) -> Option<Fault>
     requires small { IsSmallMatrix x.now }
     requires totals { AreTotals (pieces_value pieces.now) agent row.now }
     requires agent { agent < x.now.agents }
@@ -100,8 +102,8 @@ fn met_of(x: &Scaled, pieces: &Pieces, agent: u32) -> Option<Fault>
     met_in(x, pieces, agent, &row)
 }
 
-// Check 17.
-pub fn met(x: &Scaled, pieces: &Pieces) -> Option<Fault>
+// Check 17, piece by piece for each agent.
+fn met_by_rows(x: &Scaled, pieces: &Pieces) -> Option<Fault>
     requires given { ArePiecesOf x.now (pieces_value pieces.now) }
     ensures { result ≡ met_fault x.now (pieces_value pieces.now) }
 {
@@ -111,4 +113,17 @@ pub fn met(x: &Scaled, pieces: &Pieces) -> Option<Fault>
         }
     }
     None
+}
+
+// Check 17, with memory where there is some.
+pub fn met(memory: Option<Global>, x: &Scaled, pieces: &Pieces) -> Option<Fault>
+    requires given { ArePiecesOf x.now (pieces_value pieces.now) }
+    ensures { result ≡ met_fault x.now (pieces_value pieces.now) }
+{
+    if let Some(alloc) = memory {
+        if let Ok(fault) = met_in_memory(alloc, x, pieces) {
+            return fault;
+        }
+    }
+    met_by_rows(x, pieces)
 }

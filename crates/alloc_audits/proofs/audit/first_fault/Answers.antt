@@ -27,8 +27,8 @@ check_prices-requires-clause-small c =
     (ap (λ (vs : List (Vec ℕ Global)). map (λ (list : Vec ℕ Global). list.items) vs) c.deref.ensures.value) (ap (λ (y : PricesValue). length y.price) c.requires.prices) passes in
     subst AreSmall (sym c.requires.prices) (small_prices p l c.family-family.ensures.lawful c.requires.lawful s)
 
-pub check_pieces-requires-clause-matrix : goal.check_pieces-requires-clause-matrix
-check_pieces-requires-clause-matrix c =
+pub check_pieces_in-requires-clause-matrix : goal.check_pieces_in-requires-clause-matrix
+check_pieces_in-requires-clause-matrix c =
     let p = c.args.problem.now in
     let l = lottery_value c.args.lottery.now in
     let passes = (c.check_shape.ensures.pass).0 (is_pass c.check_shape.result tt c.in_ok-passed.ensures) in

@@ -12,8 +12,8 @@ check_matrix-requires c =
     let names = has_names given l (no_fault (first_name_fault given.agents given.objects l.agents l.columns) tt passes) in
     one_shape given c.args.x.now c.args.family.now l c.requires.units c.requires.lawful names
 
-pub check_pieces-requires-clause-matrix : goal.check_pieces-requires-clause-matrix
-check_pieces-requires-clause-matrix c =
+pub check_pieces_in-requires-clause-matrix : goal.check_pieces_in-requires-clause-matrix
+check_pieces_in-requires-clause-matrix c =
     let given = c.args.shares.now in
     let l = lottery_value c.args.lottery.now in
     let passes = rw (c.agents.ensures.value, c.objects.ensures.value) at c.in_ok-check_names.ensures in

@@ -2,7 +2,7 @@ use Rattle.std.proofs.Common.{◌≡◌, ◌<◌, ap, length, sym, ◌∙◌, No
 use Rattle.definitions.specs.Values.{list_at, prices_value}
 use Rattle.definitions.proofs.FirstFaults.{first-passes, first-found}
 use Rattle.cert_check.specs.PriceFaults.{better_look}
-use Rattle.cert_check.proofs.SumBounds.{list_short}
+use Rattle.definitions.proofs.Problems.{list_short}
 use Rattle.cert_check.proofs.best.better_at.Goals as goal
 
 pub returns-in-Some : goal.returns-in-Some

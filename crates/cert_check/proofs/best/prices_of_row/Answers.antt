@@ -5,7 +5,7 @@ use Rattle.definitions.specs.declared.Cell.{Cell}
 use Rattle.definitions.specs.Sets.{cell_of, SetValue}
 use Rattle.definitions.specs.Values.{prices_value}
 use Rattle.cert_check.specs.PriceFaults.{stated_at}
-use Rattle.cert_check.proofs.SumBounds.{stated_length}
+use Rattle.definitions.proofs.Families.{stated_count}
 use Rattle.cert_check.proofs.RowPrices.{price_before, price_more, price_all, run_columns, run_room}
 use Rattle.cert_check.proofs.best.prices_of_row.Goals as goal
 
@@ -25,7 +25,7 @@ add_price-requires-clause-room c = λ a l.
     let run : c.cells_of-cells.result.now ≡ filter (λ (k : Cell). k.agent == c.args.agent) (stated_at c.args.problem.now c.loop-index.index).cells =
     c.cells_of-cells.ensures.value ∙ ap (λ (s : SetValue). filter (λ (k : Cell). k.agent == c.args.agent) s.cells) c.stated.ensures.value in
     let price : c.index.result.now ≡ slice_index c.args.prices.now.price.items c.loop-index.index =
-    c.index.ensures ∙ get_or_default c.args.prices.now.price.items c.loop-index.index c.index.result.now 0 (omega (arith, stated_length c.args.problem.now c.requires.priced.problem, c.requires.priced.shape.prices)) in
+    c.index.ensures ∙ get_or_default c.args.prices.now.price.items c.loop-index.index c.index.result.now 0 (omega (arith, stated_count c.args.problem.now c.requires.priced.problem, c.requires.priced.shape.prices)) in
     let many : length c.loop-index.row ≡ 201 = omega (arith, c.loop-index.auto.row, ap length c.requires.row, length-replicate {A = ℕ}) in
     let product : c.index.result.now * length c.cells_of-cells.result.now ≡ slice_index c.args.prices.now.price.items c.loop-index.index * length (filter (λ (k : Cell). k.agent == c.args.agent) (stated_at c.args.problem.now c.loop-index.index).cells) =
     ap (λ n. n * length c.cells_of-cells.result.now) price ∙ ap (λ (cells : List Cell). slice_index c.args.prices.now.price.items c.loop-index.index * length cells) run in
@@ -38,7 +38,7 @@ loop-index-preserved c = λ a l.
     let run : c.cells_of-cells.result.now ≡ filter (λ (k : Cell). k.agent == c.args.agent) (stated_at c.args.problem.now c.loop-index.index).cells =
     c.cells_of-cells.ensures.value ∙ ap (λ (s : SetValue). filter (λ (k : Cell). k.agent == c.args.agent) s.cells) c.stated.ensures.value in
     let price : c.index.result.now ≡ slice_index c.args.prices.now.price.items c.loop-index.index =
-    c.index.ensures ∙ get_or_default c.args.prices.now.price.items c.loop-index.index c.index.result.now 0 (omega (arith, stated_length c.args.problem.now c.requires.priced.problem, c.requires.priced.shape.prices)) in
+    c.index.ensures ∙ get_or_default c.args.prices.now.price.items c.loop-index.index c.index.result.now 0 (omega (arith, stated_count c.args.problem.now c.requires.priced.problem, c.requires.priced.shape.prices)) in
     let many : length c.loop-index.row ≡ 201 = omega (arith, c.loop-index.auto.row, ap length c.requires.row, length-replicate {A = ℕ}) in
     let product : c.index.result.now * count_by (λ (k : Cell). k.object == a) c.cells_of-cells.result.now
     ≡ slice_index c.args.prices.now.price.items c.loop-index.index * count_by (λ (k : Cell). k.object == a) (filter (λ (k : Cell). k.agent == c.args.agent) (stated_at c.args.problem.now c.loop-index.index).cells) =

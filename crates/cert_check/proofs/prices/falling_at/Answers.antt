@@ -1,5 +1,5 @@
 use Rattle.std.proofs.Common.{arith}
-use Rattle.cert_check.proofs.SumBounds.{list_short}
+use Rattle.definitions.proofs.Problems.{list_short}
 use Rattle.cert_check.proofs.prices.falling_at.Goals as goal
 
 pub overflow_add-place : goal.overflow_add-place

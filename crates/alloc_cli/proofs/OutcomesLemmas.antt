@@ -5,6 +5,7 @@ use Rattle.std.specs.Prelude.{IsErrAnd}
 use Rattle.device_core.specs.declared.traits.Sink as Sink
 use Rattle.alloc_cli.specs.Load.{bytes_of}
 use Rattle.alloc_cli.specs.Outcomes.{meaning_of_none, meaning_of_one, meaning_of_three, meaning_of_two, Answers, Outcome, Says, within}
+use Rattle.alloc_cli.specs.ShortNames.{name_text}
 use Rattle.alloc_cli.specs.declared.words.Command.{Command}
 use Rattle.alloc_cli.specs.declared.words.Command.TheVariants as commands
 use Rattle.alloc_cli.specs.declared.words.NoFile.{NoFile}
@@ -18,6 +19,8 @@ use Rattle.alloc_cli.specs.declared.words.TwoFiles.TheVariants as two
 use Rattle.alloc_audits.proofs.AuditLemmas.{audit_meant}
 use Rattle.alloc_audits.proofs.AuditMatrixLemmas.{audit_matrix_meant}
 use Rattle.alloc_draws.proofs.DrawLemmas.{draw_meant}
+use Rattle.alloc_draws.proofs.PactCommitLemmas.{pact_commit_meant}
+use Rattle.alloc_draws.proofs.PactDrawLemmas.{pact_draw_meant}
 use Rattle.alloc_draws.proofs.PickLemmas.{pick_meant}
 use Rattle.alloc_draws.proofs.ReportLemmas.{report_meant}
 use Rattle.alloc_outcomes.specs.Answers.{Answer, refuse, RefusesAlone, Then, on_none, on_three}
@@ -70,6 +73,7 @@ on_three_given outcome (x ∷ y ∷ z ∷ w ∷ more) first second third a b c c
 -- a line for each command on no file
 pub none_meant : (command : NoFile) → IsMeantOfNone (meaning_of_none command)
 none_meant (none.Generate seed agents objects) = generate_meant seed agents objects
+none_meant (none.PactCommit name contribution) = pact_commit_meant (name_text name) contribution
 
 -- a line for each command on one file
 pub one_meant : (command : OneFile) → IsMeantOfOne (meaning_of_one command)
@@ -83,6 +87,7 @@ two_meant two.Sets = sets_meant
 two_meant two.Table = table_meant
 two_meant two.Decompose = decompose_meant
 two_meant two.Solve = solve_meant
+two_meant two.PactDraw = pact_draw_meant
 
 -- a line for each command on three files
 pub three_meant : (command : ThreeFiles) → IsMeantOfThree (meaning_of_three command)

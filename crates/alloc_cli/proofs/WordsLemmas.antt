@@ -9,13 +9,14 @@ module _ {A : Type 0} (text : A → List ℕ) where
   form_of_two_words (a ∷ b ∷ []) name least most n = ap (λ word. form_of_one (text word)) n
   form_of_two_words (a ∷ b ∷ c ∷ more) name least most n = absurd (omega (arith, most))
 
-  pub form_of_three_words : (words : List A) (name second : A) → 3 ≤ length words → length words < 4 → name ≡ get_or words 0 name → second ≡ get_or words 2 second
-      → form_of_two (text name) (text second) ≡ command_of (map text words)
-  form_of_three_words [] name second least most n s = absurd (omega (arith, least))
-  form_of_three_words (a ∷ []) name second least most n s = absurd (omega (arith, least))
-  form_of_three_words (a ∷ b ∷ []) name second least most n s = absurd (omega (arith, least))
-  form_of_three_words (a ∷ b ∷ c ∷ []) name second least most n s = ap (λ word. form_of_two (text word) (text second)) n ∙ ap (λ word. form_of_two (text a) (text word)) s
-  form_of_three_words (a ∷ b ∷ c ∷ d ∷ more) name second least most n s = absurd (omega (arith, most))
+  pub form_of_three_words : (words : List A) (name first second : A) → 3 ≤ length words → length words < 4 → name ≡ get_or words 0 name → first ≡ get_or words 1 first → second ≡ get_or words 2 second
+      → form_of_two (text name) (text first) (text second) ≡ command_of (map text words)
+  form_of_three_words [] name first second least most n e s = absurd (omega (arith, least))
+  form_of_three_words (a ∷ []) name first second least most n e s = absurd (omega (arith, least))
+  form_of_three_words (a ∷ b ∷ []) name first second least most n e s = absurd (omega (arith, least))
+  form_of_three_words (a ∷ b ∷ c ∷ []) name first second least most n e s =
+      ap (λ word. form_of_two (text word) (text first) (text second)) n ∙ ap (λ word. form_of_two (text a) (text word) (text second)) e ∙ ap (λ word. form_of_two (text a) (text b) (text word)) s
+  form_of_three_words (a ∷ b ∷ c ∷ d ∷ more) name first second least most n e s = absurd (omega (arith, most))
 
   pub form_of_four_words : (words : List A) (name first second third : A) → 4 ≤ length words → length words < 5
       → name ≡ get_or words 0 name → first ≡ get_or words 1 first → second ≡ get_or words 2 second → third ≡ get_or words 3 third

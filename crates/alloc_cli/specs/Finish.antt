@@ -19,6 +19,7 @@ status_of (causes.ReadFault _) = 4
 status_of (causes.TooLong _) = 3
 status_of (causes.Input _) = 3
 status_of (causes.Lottery _) = 3
+status_of (causes.Pact _) = 3
 status_of (causes.Crossing _ _) = 3
 status_of (causes.Infeasible _ _) = 3
 status_of (causes.TooFine _) = 5

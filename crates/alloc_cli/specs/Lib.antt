@@ -7,5 +7,6 @@ pub mod Outcomes
 pub mod Parts
 pub mod Runs
 pub mod Seed
+pub mod ShortNames
 pub mod Top
 pub mod Words

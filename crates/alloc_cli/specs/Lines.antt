@@ -7,6 +7,7 @@ use Rattle.alloc_outcomes.specs.declared.cause.Cause.{Cause}
 use Rattle.alloc_outcomes.specs.declared.cause.Cause.TheVariants as causes
 use Rattle.cert_check.specs.Faults.{fault_number, fault_fields}
 use Rattle.lottery_file.specs.Kinds.{kind_number}
+use Rattle.seed_pact.specs.Kinds.{kind_number as pact_kind_number}
 
 -- texts in a row
 abbrev pub joined : List (List ℕ) → List ℕ
@@ -32,6 +33,9 @@ line_of (causes.Input fault) =
 line_of (causes.Lottery fault) =
     joined (codes "lottery: record " ∷ decimal fault.record_no ∷ codes " kind "
     ∷ decimal (kind_number fault.kind) ∷ codes "\n" ∷ [])
+line_of (causes.Pact fault) =
+    joined (codes "pact: record " ∷ decimal fault.record_no ∷ codes " kind "
+    ∷ decimal (pact_kind_number fault.kind) ∷ codes "\n" ∷ [])
 line_of (causes.Crossing first second) =
     joined (codes "crossing: sets " ∷ decimal first ∷ codes " " ∷ decimal second ∷ codes "\n" ∷ [])
 line_of (causes.Infeasible set sum) =

@@ -2,6 +2,7 @@
 -- write; and what is said of its runs.
 use Rattle.std.specs.Prelude.{◌≡◌, ℕ, ◌+◌, List, [], ◌∷◌, length, if◌then◌else◌, nat_lt, Option, None, Some, Result, Ok, Err}
 use Rattle.std.specs.Option.{option_map_or}
+use Rattle.alloc_cli.specs.ShortNames.{name_text}
 use Rattle.alloc_cli.specs.declared.words.Command.{Command}
 use Rattle.alloc_cli.specs.declared.words.Command.TheVariants as commands
 use Rattle.alloc_cli.specs.declared.words.NoFile.{NoFile}
@@ -15,6 +16,8 @@ use Rattle.alloc_cli.specs.declared.words.TwoFiles.TheVariants as two
 use Rattle.alloc_audits.specs.Audit.{audit_meaning}
 use Rattle.alloc_audits.specs.AuditMatrix.{audit_matrix_meaning}
 use Rattle.alloc_draws.specs.Draw.{draw_meaning}
+use Rattle.alloc_draws.specs.PactCommit.{pact_commit_meaning}
+use Rattle.alloc_draws.specs.PactDraw.{pact_draw_meaning}
 use Rattle.alloc_draws.specs.Pick.{pick_meaning}
 use Rattle.alloc_draws.specs.Report.{report_meaning}
 use Rattle.alloc_outcomes.specs.Answers.{Answer, Then, on_none, on_one, on_three, on_two}
@@ -33,6 +36,8 @@ use Rattle.alloc_tables.specs.Table.{table_meaning}
 -- what a command on no file means: a line for each
 abbrev pub meaning_of_none : NoFile → NoneMeaning
 meaning_of_none (none.Generate seed agents objects) = generate_meaning seed agents objects
+meaning_of_none (none.PactCommit name contribution) =
+    pact_commit_meaning (name_text name) contribution
 
 -- what a command on one file means: a line for each
 abbrev pub meaning_of_one : OneFile → OneMeaning
@@ -46,6 +51,7 @@ meaning_of_two two.Sets = sets_meaning
 meaning_of_two two.Table = table_meaning
 meaning_of_two two.Decompose = decompose_meaning
 meaning_of_two two.Solve = solve_meaning
+meaning_of_two two.PactDraw = pact_draw_meaning
 
 -- what a command on three files means: a line for each
 abbrev pub meaning_of_three : ThreeFiles → ThreeMeaning

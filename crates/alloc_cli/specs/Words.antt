@@ -4,6 +4,7 @@ use Rattle.std.specs.Option.{option_and_then, option_map, option_or}
 use Rattle.std.specs.Str.{bytes_eq}
 use Rattle.definitions.specs.Texts.{count_of}
 use Rattle.alloc_cli.specs.Seed.{seed_of}
+use Rattle.alloc_cli.specs.ShortNames.{short_name_of, IsShortName}
 use Rattle.alloc_cli.specs.declared.words.Command.{Command}
 use Rattle.alloc_cli.specs.declared.words.Command.TheVariants as commands
 use Rattle.alloc_cli.specs.declared.words.NoFile.{NoFile}
@@ -27,7 +28,18 @@ generate_of seed agents objects =
     option_and_then (λ s. option_and_then (λ n. option_map (λ m. none.Generate s n m)
     (size_of 200 objects)) (size_of 1000 agents)) (seed_of seed)
 
--- the command on no file of this name, and of the words after it
+-- `pact-commit`, by the words after its name
+abbrev pub pact_commit_of : (name contribution : List ℕ) → Option NoFile
+pact_commit_of name contribution =
+    option_and_then (λ n. option_map (λ c. none.PactCommit n c) (seed_of contribution))
+    (short_name_of name)
+
+-- the command on no file of this name, and of the two words after it
+abbrev pub pair_of : (name first second : List ℕ) → Option NoFile
+pair_of name first second =
+    if bytes_eq name (codes "pact-commit") then pact_commit_of first second else None
+
+-- the command on no file of this name, and of the three words after it
 abbrev pub none_of : (name first second third : List ℕ) → Option NoFile
 none_of name first second third =
     if bytes_eq name (codes "generate") then generate_of first second third else None
@@ -50,6 +62,7 @@ two_of name =
     else if bytes_eq name (codes "table") then Some two.Table
     else if bytes_eq name (codes "decompose") then Some two.Decompose
     else if bytes_eq name (codes "solve") then Some two.Solve
+    else if bytes_eq name (codes "pact-draw") then Some two.PactDraw
     else None
 
 -- the command on three files of this name
@@ -64,10 +77,11 @@ abbrev pub form_of_one : (name : List ℕ) → Option Command
 form_of_one name = option_map (λ c. commands.One c) (alone_of name)
 
 -- the command of this name and two more words
-abbrev pub form_of_two : (name second : List ℕ) → Option Command
-form_of_two name second =
+abbrev pub form_of_two : (name first second : List ℕ) → Option Command
+form_of_two name first second =
     option_or (option_map (λ c. commands.Two c) (two_of name))
-    (option_map (λ c. commands.One c) (one_of name second))
+    (option_or (option_map (λ c. commands.One c) (one_of name second))
+    (option_map (λ c. commands.Zero c) (pair_of name first second)))
 
 -- the command of this name and three more words
 abbrev pub form_of_three : (name first second third : List ℕ) → Option Command
@@ -78,13 +92,14 @@ form_of_three name first second third =
 -- the command that the words are a form of
 abbrev pub command_of : List (List ℕ) → Option Command
 command_of (name ∷ first ∷ []) = form_of_one name
-command_of (name ∷ first ∷ second ∷ []) = form_of_two name second
+command_of (name ∷ first ∷ second ∷ []) = form_of_two name first second
 command_of (name ∷ first ∷ second ∷ third ∷ []) = form_of_three name first second third
 command_of _ = None
 
--- the numbers of a command are within their limits: those of the words are
+-- the numbers of a command are within their limits, and its name is lawful: those of the words are
 abbrev pub IsWithinLimits : Command → Type 0
 IsWithinLimits (commands.Zero (none.Generate _ agents objects)) = IsMakeable agents objects
+IsWithinLimits (commands.Zero (none.PactCommit name _)) = IsShortName name
 IsWithinLimits _ = Unit {0}
 
 -- how many files it loads: the words after its name

@@ -10,7 +10,7 @@ ghost use Rattle.alloc_outcomes.specs.Steps.{OutCounts, ShortCounts, Steps};
 use crate::load::{FILE_LIMIT, load_all};
 use crate::words::{Command, NoFile, OneFile, ThreeFiles, TwoFiles};
 use alloc_audits::{audit, audit_matrix};
-use alloc_draws::{draw, pick, report};
+use alloc_draws::{draw, pact_commit, pact_draw, pick, report};
 use alloc_outcomes::Cause;
 use alloc_steps::{decompose, generate, solve};
 use alloc_tables::{sets, table};
@@ -41,6 +41,9 @@ fn step_none<K: Sink>(alloc: Global, command: NoFile, out: &mut K) -> Result<(),
             agents,
             objects,
         } => generate::step(alloc, seed, agents, objects, out),
+        NoFile::PactCommit { name, contribution } => {
+            pact_commit::step(alloc, name.text(), contribution, out)
+        }
     }
 }
 
@@ -77,6 +80,7 @@ fn step_two<K: Sink>(
         TwoFiles::Table => table::step(alloc, first, second, out),
         TwoFiles::Decompose => decompose::step(alloc, first, second, out),
         TwoFiles::Solve => solve::step(alloc, first, second, out),
+        TwoFiles::PactDraw => pact_draw::step(alloc, first, second, out),
     }
 }
 

@@ -25,6 +25,7 @@ fn status(cause: Cause) -> u8
         Cause::TooLong { .. }
         | Cause::Input(_)
         | Cause::Lottery(_)
+        | Cause::Pact(_)
         | Cause::Crossing { .. }
         | Cause::Infeasible { .. }
         | Cause::OverTotal { .. }

@@ -21,6 +21,7 @@ mod lines;
 mod load;
 mod parts;
 mod seed;
+mod short_name;
 mod top;
 mod words;
 

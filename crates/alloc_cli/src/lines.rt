@@ -11,6 +11,7 @@ use alloc_outcomes::Cause;
 use cert_check::Fault;
 use device_core::{Sink, SinkFault};
 use lottery_file::LotteryFault;
+use seed_pact::PactFault;
 
 // The number of a failed check, and the fields of the fault.
 fn write_fault<E: Sink>(fault: Fault, err: &mut E) -> Result<(), SinkFault>
@@ -58,6 +59,23 @@ fn write_lottery<E: Sink>(fault: LotteryFault, err: &mut E) -> Result<(), SinkFa
     )
 }
 
+// The record and the kind of a fault of a pact.
+fn write_pact<E: Sink>(fault: PactFault, err: &mut E) -> Result<(), SinkFault>
+    ensures { Writes E.Sink (line_of (Cause.Pact fault)) err.old err.new result }
+{
+    let kind = fault.kind.number();
+    write_parts(
+        &[
+            Text("pact: record "),
+            U64(fault.record_no),
+            Text(" kind "),
+            U8(kind),
+            Text("\n"),
+        ],
+        err,
+    )
+}
+
 // A line of a text and a number.
 fn write_one<E: Sink>(lead: &'static str, number: Part, err: &mut E) -> Result<(), SinkFault>
     ensures { Writes E.Sink (joined (lead.now ∷ part_text number ∷ codes "\n" ∷ []))
@@ -93,6 +111,7 @@ pub fn write_line<E: Sink>(cause: Cause, err: &mut E) -> Result<(), SinkFault>
         Cause::TooLong { file } => write_one("too long: file ", U8(file), err),
         Cause::Input(fault) => write_input(fault, err),
         Cause::Lottery(fault) => write_lottery(fault, err),
+        Cause::Pact(fault) => write_pact(fault, err),
         Cause::Crossing { first, second } => {
             write_two("crossing: sets ", U32(first), " ", U32(second), err)
         }

@@ -1,8 +1,9 @@
 // The forms of the words.
 ghost use Rattle.std.specs.Prelude.{◌≡◌, ◌+◌, ◌≤◌, map, string_bytes, length, IfSome};
-ghost use Rattle.alloc_cli.specs.Words.{alone_of, command_of, file_count, form_of_one, form_of_three, form_of_two, generate_of, none_of, one_of, size_of, three_of, two_of, IsWithinLimits};
+ghost use Rattle.alloc_cli.specs.Words.{alone_of, command_of, file_count, form_of_one, form_of_three, form_of_two, generate_of, none_of, one_of, pact_commit_of, pair_of, size_of, three_of, two_of, IsWithinLimits};
 
 use crate::seed::read_seed;
+use crate::short_name::ShortName;
 use table_text::read_count;
 
 /// A command on no file.
@@ -13,6 +14,11 @@ pub enum NoFile {
         seed: [u8; 32],
         agents: u32,
         objects: u32,
+    },
+    /// `pact-commit NAME CONTRIBUTION`
+    PactCommit {
+        name: ShortName,
+        contribution: [u8; 32],
     },
 }
 
@@ -38,6 +44,8 @@ pub enum TwoFiles {
     Decompose,
     /// `solve PREFS QUOTAS`
     Solve,
+    /// `pact-draw LOTTERY PACT`
+    PactDraw,
 }
 
 /// A command on three files.
@@ -97,7 +105,28 @@ fn parse_generate(seed: &str, agents: &str, objects: &str) -> Option<NoFile>
     })
 }
 
-// The command on no file of this name, and of the words after it.
+// `pact-commit`, by the words after its name.
+fn parse_pact_commit(name: &str, contribution: &str) -> Option<NoFile>
+    ensures form { result ≡ pact_commit_of name.now contribution.now }
+    ensures limits { IfSome result (λ command. IsWithinLimits (Command.Zero command)) }
+{
+    let name = ShortName::of(name)?;
+    let contribution = read_seed(contribution)?;
+    Some(NoFile::PactCommit { name, contribution })
+}
+
+// The command on no file of this name, and of the two words after it.
+fn parse_pair(name: &str, first: &str, second: &str) -> Option<NoFile>
+    ensures form { result ≡ pair_of name.now first.now second.now }
+    ensures limits { IfSome result (λ command. IsWithinLimits (Command.Zero command)) }
+{
+    match name {
+        "pact-commit" => parse_pact_commit(first, second),
+        _ => None,
+    }
+}
+
+// The command on no file of this name, and of the three words after it.
 fn parse_none(name: &str, first: &str, second: &str, third: &str) -> Option<NoFile>
     ensures { result ≡ none_of name.now first.now second.now third.now }
 {
@@ -143,6 +172,7 @@ fn parse_two(name: &str) -> Option<TwoFiles>
         "table" => Some(TwoFiles::Table),
         "decompose" => Some(TwoFiles::Decompose),
         "solve" => Some(TwoFiles::Solve),
+        "pact-draw" => Some(TwoFiles::PactDraw),
         _ => None,
     }
 }
@@ -166,12 +196,16 @@ fn parse_with_one(name: &str) -> Option<Command>
 }
 
 // The command of this name and two more words.
-fn parse_with_two(name: &str, second: &str) -> Option<Command>
-    ensures { result ≡ form_of_two name.now second.now }
+fn parse_with_two(name: &str, first: &str, second: &str) -> Option<Command>
+    ensures form { result ≡ form_of_two name.now first.now second.now }
+    ensures limits { IfSome result IsWithinLimits }
 {
-    match parse_two(name) {
-        Some(command) => Some(Command::Two(command)),
-        None => Some(Command::One(parse_one(name, second)?)),
+    if let Some(command) = parse_two(name) {
+        return Some(Command::Two(command));
+    }
+    match parse_one(name, second) {
+        Some(command) => Some(Command::One(command)),
+        None => Some(Command::Zero(parse_pair(name, first, second)?)),
     }
 }
 
@@ -193,7 +227,7 @@ pub fn parse(words: &[String]) -> Option<Command>
 {
     match words {
         [name, _] => parse_with_one(name.as_str()),
-        [name, _, second] => parse_with_two(name.as_str(), second.as_str()),
+        [name, first, second] => parse_with_two(name.as_str(), first.as_str(), second.as_str()),
         [name, first, second, third] => {
             parse_with_three(
                 name.as_str(),

@@ -1,5 +1,5 @@
 -- `draw`: what has to be known of its meaning.
-use Rattle.std.proofs.Common.{◌≡◌, ◌<◌, ℕ, ◌+◌, List, [], ◌++◌, map, sum, slice_get, refl, ap, sym, subst, ◌∙◌, Option, None, Some, Result, Ok, Err, arith}
+use Rattle.std.proofs.Common.{◌≡◌, ◌<◌, ℕ, List, [], ◌++◌, map, sum, slice_get, refl, ap, sym, subst, ◌∙◌, Option, None, Some, Result, Ok, Err, arith}
 use Rattle.std.proofs.lemmas.List.{length-map}
 use Rattle.std.proofs.lemmas.List.Sums.{sum-map}
 use Rattle.std.proofs.lemmas.Option.{slice_get-get_or}
@@ -32,7 +32,7 @@ not_both : (found : Option ℕ) (t : ℕ) → found ≡ Some t → found ≡ Non
 not_both found t h k = cc
 
 -- a seed names one ticket or none
-one_named : (seed : List ℕ) (denominator : ℕ) (r s : Result ℕ (Unit {0})) → NamesOrNot seed denominator r → NamesOrNot seed denominator s → r ≡ s
+pub one_named : (seed : List ℕ) (denominator : ℕ) (r s : Result ℕ (Unit {0})) → NamesOrNot seed denominator r → NamesOrNot seed denominator s → r ≡ s
 one_named seed denominator (Ok t) (Ok u) h k = ap Ok (one_found (ticket_of (seed_words seed) denominator) t u h k)
 one_named seed denominator (Ok t) (Err _) h k = absurd (not_both (ticket_of (seed_words seed) denominator) t h k)
 one_named seed denominator (Err _) (Ok u) h k = absurd (not_both (ticket_of (seed_words seed) denominator) u k h)
@@ -50,7 +50,7 @@ abbrev no_piece : PieceValue
 no_piece = record { weight = 0; gives = [] }
 
 -- a text that reads as a lottery reads as a lawful one
-lawful_read : (bytes : List ℕ) (l : LotteryValue) → TextReadsAs bytes l → IsLawfulLottery l
+pub lawful_read : (bytes : List ℕ) (l : LotteryValue) → TextReadsAs bytes l → IsLawfulLottery l
 lawful_read bytes l read = subst IsLawfulLottery (sym read.2.1) (reads-lawful read.0 read.2.0)
 
 -- a ticket of a lawful lottery has a piece, whose text is the picked one
@@ -62,7 +62,7 @@ has_piece l ticket lawful below =
     slice_get-get_or l.pieces (picked_place l ticket) no_piece (omega (arith, known, length-map l.pieces (λ (p : PieceValue). p.weight)))
 
 -- the text of the seed's ticket is drawn
-drawn : (seed : List ℕ) (l : LotteryValue) (ticket : ℕ) (before t : List ℕ) (written : Option (List ℕ)) → IsLawfulLottery l → ticket_of (seed_words seed) l.shares.denominator ≡ Some ticket
+pub drawn : (seed : List ℕ) (l : LotteryValue) (ticket : ℕ) (before t : List ℕ) (written : Option (List ℕ)) → IsLawfulLottery l → ticket_of (seed_words seed) l.shares.denominator ≡ Some ticket
     → text t ≡ text (picked_text l ticket) → written ≡ Some (before ++ t) → Drawn seed l before written
 unfolding picked_text
 drawn seed l ticket before t written lawful named is did =

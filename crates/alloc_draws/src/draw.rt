@@ -14,7 +14,7 @@ use seed_draw::ticket;
 use std::alloc::Global;
 
 // The ticket that the seed names.
-fn ticket_from(lottery: &Lottery, seed: [u8; 32]) -> Result<u128, Cause>
+pub(crate) fn ticket_from(lottery: &Lottery, seed: [u8; 32]) -> Result<u128, Cause>
     ensures named { Checked (λ ticket. ticket) no_ticket_cause
         (NamesOrNot seed lottery.now.shares.denominator) result }
     ensures within { IfOk result (λ ticket. ticket < lottery.now.shares.denominator) }

@@ -1,5 +1,6 @@
 //! Commands on a lottery: `pick` the piece of a ticket, `draw` that of the ticket that a seed names,
-//! and `report` the summary.
+//! `pact-draw` that of the seed of a pact, and `report` the summary; and `pact-commit`, the record
+//! with which a party of a pact commits.
 //!
 //! Each is a step: it reads its files, decides, puts its text together and writes it. No step knows
 //! the words that ask for it, nor any other command.
@@ -23,6 +24,9 @@
 #![tactic(auto)]
 
 pub mod draw;
+mod hex_digits;
+pub mod pact_commit;
+pub mod pact_draw;
 pub mod pick;
 mod picked;
 pub mod report;

@@ -17,6 +17,9 @@ use Rattle.lottery_file.specs.declared.faults.LotteryRefusal.{LotteryRefusal}
 use Rattle.lottery_file.specs.declared.faults.LotteryRefusal.TheVariants as lottery
 use Rattle.scaled_matrix.specs.declared.scaling.ScaleFault.{ScaleFault}
 use Rattle.scaled_matrix.specs.declared.scaling.ScaleFault.TheVariants as scaling
+use Rattle.seed_pact.specs.declared.faults.PactFault.{PactFault}
+use Rattle.seed_pact.specs.declared.faults.PactRefusal.{PactRefusal}
+use Rattle.seed_pact.specs.declared.faults.PactRefusal.TheVariants as pact
 
 -- a cause that content alone decides
 abbrev pub IsRefusal : Cause → Type 0
@@ -36,6 +39,10 @@ input_cause fault = causes.Input fault
 -- of a text of a lottery
 abbrev pub lottery_cause : LotteryFault → Cause
 lottery_cause fault = causes.Lottery fault
+
+-- of a text of a pact
+abbrev pub pact_cause : PactFault → Cause
+pact_cause fault = causes.Pact fault
 
 -- of the first set whose quotas a matrix breaks
 abbrev pub infeasible_cause : Infeasible → Cause
@@ -58,6 +65,10 @@ input_refusal_cause input.NoMemory = causes.NoMemory
 abbrev pub lottery_refusal_cause : LotteryRefusal → Cause
 lottery_refusal_cause (lottery.Fault fault) = lottery_cause fault
 lottery_refusal_cause lottery.NoMemory = causes.NoMemory
+
+abbrev pub pact_refusal_cause : PactRefusal → Cause
+pact_refusal_cause (pact.Fault fault) = pact_cause fault
+pact_refusal_cause pact.NoMemory = causes.NoMemory
 
 abbrev pub trees_cause : TreesFault → Cause
 trees_cause (trees.Crossing first second) = causes.Crossing first second

@@ -3,6 +3,7 @@
 use alloc_input::InputFault;
 use cert_check::Fault;
 use lottery_file::LotteryFault;
+use seed_pact::PactFault;
 
 /// Why a run ended. Files, records, sets, agents and columns count from 1.
 #[derive(Clone, Copy, Debug, PartialEq, Eq)]
@@ -21,6 +22,8 @@ pub enum Cause {
     Input(InputFault),
     /// A lottery is unlawful.
     Lottery(LotteryFault),
+    /// A pact is unlawful.
+    Pact(PactFault),
     /// Two sets of one side cross.
     Crossing { first: u32, second: u32 },
     /// The sum of a set, in units of the denominator, lies outside its quotas.

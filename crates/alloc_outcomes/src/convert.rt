@@ -8,6 +8,7 @@ use eating::EatFault;
 use lottery_file::LotteryRefusal;
 use quota_sets::Infeasible;
 use scaled_matrix::ScaleFault;
+use seed_pact::PactRefusal;
 use std::alloc::AllocFailed;
 
 impl From<table_text::NoMemory> for Cause {
@@ -81,6 +82,20 @@ impl From<LotteryRefusal> for Cause {
         match refusal {
             LotteryRefusal::Fault(fault) => Cause::Lottery(fault),
             LotteryRefusal::NoMemory => Cause::NoMemory,
+        }
+    }
+}
+
+impl From<PactRefusal> for Cause {
+    ghost use Rattle.std.specs.Prelude.{◌≡◌};
+    ghost use Rattle.alloc_outcomes.specs.Causes.{pact_refusal_cause};
+
+    ghost from_gives = { λ refusal cause. cause ≡ pact_refusal_cause refusal };
+
+    fn from(refusal: PactRefusal) -> Cause {
+        match refusal {
+            PactRefusal::Fault(fault) => Cause::Pact(fault),
+            PactRefusal::NoMemory => Cause::NoMemory,
         }
     }
 }

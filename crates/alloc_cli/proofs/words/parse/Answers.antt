@@ -11,17 +11,18 @@ returns-in-len2-clause-form c =
 
 pub returns-in-len3-clause-form : goal.returns-in-len3-clause-form
 returns-in-len3-clause-form c =
-    c.parse_with_two.ensures
-    ∙ ap (λ name. form_of_two name c.as_str-in-len3-2.result.now) c.as_str-in-len3.ensures.value
-    ∙ ap (form_of_two (string_bytes c.name-item-then-words-lt4.result)) c.as_str-in-len3-2.ensures.value
-    ∙ form_of_three_words string_bytes c.args.words.now c.name-item-then-words-lt4.result c.second-item.result c.in-len3.len_at_least c.in-len3.len_below c.name-item-then-words-lt4.is c.second-item.is
+    c.parse_with_two.ensures.form
+    ∙ ap (λ name. form_of_two name c.as_str-in-len3-2.result.now c.as_str-in-len3-3.result.now) c.as_str-in-len3.ensures.value
+    ∙ ap (λ first. form_of_two (string_bytes c.name-item-then-words-lt4.result) first c.as_str-in-len3-3.result.now) c.as_str-in-len3-2.ensures.value
+    ∙ ap (form_of_two (string_bytes c.name-item-then-words-lt4.result) (string_bytes c.first-item.result)) c.as_str-in-len3-3.ensures.value
+    ∙ form_of_three_words string_bytes c.args.words.now c.name-item-then-words-lt4.result c.first-item.result c.second-item.result c.in-len3.len_at_least c.in-len3.len_below c.name-item-then-words-lt4.is c.first-item.is c.second-item.is
 
 pub returns-in-len4-clause-form : goal.returns-in-len4-clause-form
 returns-in-len4-clause-form c =
     c.parse_with_three.ensures
     ∙ ap (λ name. form_of_three name c.as_str-in-len4-2.result.now c.as_str-in-len4-3.result.now c.as_str-in-len4-4.result.now) c.as_str-in-len4.ensures.value
     ∙ ap (λ first. form_of_three (string_bytes c.name-item-then-words-lt5.result) first c.as_str-in-len4-3.result.now c.as_str-in-len4-4.result.now) c.as_str-in-len4-2.ensures.value
-    ∙ ap (λ second. form_of_three (string_bytes c.name-item-then-words-lt5.result) (string_bytes c.first-item.result) second c.as_str-in-len4-4.result.now) c.as_str-in-len4-3.ensures.value
-    ∙ ap (form_of_three (string_bytes c.name-item-then-words-lt5.result) (string_bytes c.first-item.result) (string_bytes c.second-item-then-words-lt5.result)) c.as_str-in-len4-4.ensures.value
-    ∙ form_of_four_words string_bytes c.args.words.now c.name-item-then-words-lt5.result c.first-item.result c.second-item-then-words-lt5.result c.third-item.result
-    c.in-len4.len_at_least c.in-len4.len_below c.name-item-then-words-lt5.is c.first-item.is c.second-item-then-words-lt5.is c.third-item.is
+    ∙ ap (λ second. form_of_three (string_bytes c.name-item-then-words-lt5.result) (string_bytes c.first-item-then-words-lt5.result) second c.as_str-in-len4-4.result.now) c.as_str-in-len4-3.ensures.value
+    ∙ ap (form_of_three (string_bytes c.name-item-then-words-lt5.result) (string_bytes c.first-item-then-words-lt5.result) (string_bytes c.second-item-then-words-lt5.result)) c.as_str-in-len4-4.ensures.value
+    ∙ form_of_four_words string_bytes c.args.words.now c.name-item-then-words-lt5.result c.first-item-then-words-lt5.result c.second-item-then-words-lt5.result c.third-item.result
+    c.in-len4.len_at_least c.in-len4.len_below c.name-item-then-words-lt5.is c.first-item-then-words-lt5.is c.second-item-then-words-lt5.is c.third-item.is

@@ -13,6 +13,11 @@ worth,x,a,1\nworth,x,none,0\npiece,1,1\ngive,x,a,1\nend,1\n";
 const SPLIT: &str = "lottery,1\ndenominator,2\nagents,x\nobjects,a\nrow,x,1\n\
 piece,1,1\ngive,x,a,1\npiece,2,1\nend,2\n";
 
+// A pact of one party, whose seed names a ticket of each of these lotteries.
+const PACT: &str = "pact,1\n\
+commit,A,c3f43f2d59222751fd34bbfc11a6f6ffa56a5576976802a6dc41faffaa6d1b78\n\
+reveal,A,0000000000000000000000000000000000000000000000000000000000000000\n";
+
 // Lawful files for every command.
 fn device_files(alloc: Global) -> Result<Vec<(String, Vec<u8>)>, AllocError> {
     let mut files = two_files(alloc, b"agent\nx,a\n", b"object,a,,1\n")?;
@@ -31,6 +36,10 @@ fn device_files(alloc: Global) -> Result<Vec<(String, Vec<u8>)>, AllocError> {
     files.push((
         String::from_str(alloc, "split.csv")?,
         SPLIT.as_bytes().to_vec(alloc)?,
+    ))?;
+    files.push((
+        String::from_str(alloc, "pact.csv")?,
+        PACT.as_bytes().to_vec(alloc)?,
     ))?;
     Ok(files)
 }

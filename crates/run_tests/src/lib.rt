@@ -19,6 +19,8 @@ mod input_faults;
 #[cfg(test)]
 mod lottery_faults;
 #[cfg(test)]
+mod pact;
+#[cfg(test)]
 mod pick;
 #[cfg(test)]
 mod report;

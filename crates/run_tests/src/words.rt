@@ -15,7 +15,7 @@ fn cause_without_files(alloc: Global, words: &[&str]) -> Result<Cause, AllocErro
 
 #[test]
 fn usage_words(rt: HostRuntime) -> Result<(), Fail> {
-    let forms: [&[&str]; 24] = [
+    let forms: [&[&str]; 27] = [
         &["decompose", "matrix.csv"],
         &["solve", "prefs.csv"],
         &["table", "prefs.csv"],
@@ -39,6 +39,9 @@ fn usage_words(rt: HostRuntime) -> Result<(), Fail> {
         &["generate"],
         &["generate", "1", "1"],
         &["generate", "1", "1", "1"],
+        &["pact-commit", "A"],
+        &["pact-draw", "lottery.csv"],
+        &["pact-draw", "lottery.csv", "pact.csv", "more"],
         &["--help"],
     ];
     for words in forms {

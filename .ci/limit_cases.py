@@ -7,11 +7,13 @@ limit_cases.py write: writes the inputs into the current folder, and beside them
     shares.csv, rows.csv     a matrix of 1,000 by 200 shares, and 1,000 sets with 420,000 cells for it
     lottery.csv              a lottery of 67,108,864 bytes; first.csv and last.csv are due for its first and last ticket, and
         summary.json is its summary
+    pact.csv     a pact of 1,000 parties, and seed.csv with the seed that it makes
 limit_cases.py check: reads a lottery for shares.csv and rows.csv from standard input, and ends with 0 where its pieces add up to
     its rows and each of them keeps every quota; else it says what is wrong and ends with 1.
 limit_cases.py solved: the same of a lottery for lists.csv and quotas.csv.
 """
 
+import hashlib
 import sys
 from collections import Counter
 
@@ -162,6 +164,17 @@ def write_lottery():
         write(name, [f"ticket,{number - 1},{pieces}", *piece(number, names, places), f"end,{AGENTS}"])
 
 
+def write_pact():
+    """Who commits last reveals first."""
+    parties = [(f"party-{number:04}", hashlib.sha256(b"%d" % number).digest()) for number in agents()]
+    hashed = [hashlib.sha256(name.encode() + b"\0" + contribution).hexdigest() for name, contribution in parties]
+    commits = [f"commit,{name},{digits}" for (name, _), digits in zip(parties, hashed)]
+    reveals = [f"reveal,{name},{contribution.hex()}" for name, contribution in reversed(parties)]
+    write("pact.csv", ["pact,1", *commits, *reveals])
+    seed = hashlib.sha256(b"".join(contribution for _, contribution in parties)).hexdigest()
+    write("seed.csv", [f"seed,{seed}"])
+
+
 def need(holds, what):
     if not holds:
         sys.exit(what)
@@ -242,6 +255,7 @@ def write_inputs():
     write_head()
     write_shares()
     write_lottery()
+    write_pact()
 
 
 if __name__ == "__main__":

@@ -1,5 +1,4 @@
 // `audit` and `audit-matrix`: whether a lottery is what it should be.
-use crate::devices::check_failing_devices;
 use crate::runs::{PLAIN, run_on_three};
 use std::alloc::{AllocError, Global};
 use std::process::Abort;
@@ -161,6 +160,55 @@ fn sound_lotteries(rt: HostRuntime) -> Result<(), Fail> {
     // A worth may be as low as this.
     let low = "worth,x,none,-1099511627776";
     check_change(&rt, "audit", TWO, "worth,x,none,-1", low, "")?;
+    Ok(())
+}
+
+// One agent, and one object in 1,000 stated sets of this ceiling: of the object itself, and of its one
+// cell.
+fn thousand_sets(alloc: Global, ceiling: u32) -> Result<String, AllocError> {
+    let mut quotas = format!(in alloc; "object,a,,{ceiling}\n")?;
+    for number in 2..1001u32 {
+        quotas.push_str(&format!(in alloc; "set,S{number},2,,{ceiling}\nin,S{number},x,a\n")?)?;
+    }
+    Ok(quotas)
+}
+
+// A lottery for that problem, in which each price and worth is as great as it may be. The agent has
+// these units of the object and of `none`, so its one piece gives it this column.
+fn greatest_prices(alloc: Global, units: &str, column: &str) -> Result<String, AllocError> {
+    let mut text = format!(in alloc;
+        "lottery,1\ndenominator,1\nagents,x\nobjects,a,none\nrow,x,{units}\n"
+    )?;
+    for number in 1..1001u32 {
+        text.push_str(&format!(in alloc; "price,{number},1099511627776\n")?)?;
+    }
+    text.push_str(&format!(in alloc;
+        "worth,x,a,1099511627776\nworth,x,none,-1099511627776\n\
+piece,1,1\ngive,x,{column},1\nend,1\n"
+    )?)?;
+    Ok(text)
+}
+
+// The price of the cell is 1,000 times 2^40. To an agent who has the object `none` would be better by
+// 998 times 2^40; where the object has no place, to have `none` is best.
+#[test]
+fn prices_at_their_limit(rt: HostRuntime) -> Result<(), Fail> {
+    let alloc = rt.alloc();
+    for (ceiling, units, column, line) in [
+        (
+            1u32,
+            "1,0",
+            "a",
+            "audit failed: 12 1 1 -1098412116148224 2 -1099511627776\n",
+        ),
+        (0, "0,1", "none", ""),
+    ] {
+        let quotas = thousand_sets(alloc, ceiling)?;
+        let lottery = greatest_prices(alloc, units, column)?;
+        let (quotas, lottery) = (quotas.as_bytes(), lottery.as_bytes());
+        let seen = run_on_three(alloc, "audit", b"agent\nx,a\n", quotas, lottery)?;
+        check_seen(&rt, seen.status, &seen.out, &seen.err, line);
+    }
     Ok(())
 }
 
@@ -335,14 +383,5 @@ fn audit_matrix_faults(rt: HostRuntime) -> Result<(), Fail> {
     ] {
         check_change(&rt, "audit-matrix", HALVES, old, new, line)?;
     }
-    Ok(())
-}
-
-#[test]
-fn failing_devices(rt: HostRuntime) -> Result<(), Fail> {
-    let words = ["audit", "prefs.csv", "quotas.csv", "sound.csv"];
-    check_failing_devices(&rt, &words, 3)?;
-    let words = ["audit-matrix", "matrix.csv", "quotas.csv", "split.csv"];
-    check_failing_devices(&rt, &words, 3)?;
     Ok(())
 }

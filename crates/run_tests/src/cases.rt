@@ -58,9 +58,13 @@ pub(crate) const ENVY_BETWEEN_DEMANDS_OF_TWO: Case = Case {
     quotas: b"object,a,,2\nobject,b,,2\nagent,u,2,2\nagent,v,2,2\n",
 };
 
-// So many objects of one place; two agents list them all, and each object has one agent more who
+// So many objects of one place; these agents list them all, and each object has one agent more who
 // lists it alone.
-pub(crate) fn chain_of(alloc: Global, objects: u32) -> Result<(Vec<u8>, Vec<u8>), AllocError> {
+pub(crate) fn chain_of(
+    alloc: Global,
+    agents: &[&str],
+    objects: u32,
+) -> Result<(Vec<u8>, Vec<u8>), AllocError> {
     let mut list = Vec::new(alloc);
     let mut alone = Vec::new(alloc);
     let mut quotas = Vec::new(alloc);
@@ -69,11 +73,12 @@ pub(crate) fn chain_of(alloc: Global, objects: u32) -> Result<(Vec<u8>, Vec<u8>)
         alone.extend_from_slice(format!(in alloc; "z{number},o{number}\n")?.as_bytes())?;
         quotas.extend_from_slice(format!(in alloc; "object,o{number},,1\n")?.as_bytes())?;
     }
-    let mut prefs = b"agent\nx".to_vec(alloc)?;
-    prefs.extend_from_slice(&list)?;
-    prefs.extend_from_slice(b"\ny")?;
-    prefs.extend_from_slice(&list)?;
-    prefs.extend_from_slice(b"\n")?;
+    let mut prefs = b"agent\n".to_vec(alloc)?;
+    for agent in agents {
+        prefs.extend_from_slice(agent.as_bytes())?;
+        prefs.extend_from_slice(&list)?;
+        prefs.extend_from_slice(b"\n")?;
+    }
     prefs.extend_from_slice(&alone)?;
     Ok((prefs, quotas))
 }

@@ -1,6 +1,5 @@
 // `decompose`: given shares become a lottery.
-use crate::devices::check_failing_devices;
-use crate::runs::{check_both, run_on_both};
+use crate::runs::{check_both, check_passes, run_on_both};
 use crate::texts::{count_of, has_once, has_pieces};
 use alloc_cli::Cause;
 use std::alloc::AllocError;
@@ -26,7 +25,7 @@ fn check_decompose_refused(
     )
 }
 
-// What `decompose` writes.
+// What `decompose` writes. An audit of it passes.
 fn decomposed(
     rt: &(impl Abort + AllocGlobal),
     matrix: &str,
@@ -39,6 +38,13 @@ fn decomposed(
         quotas.as_bytes(),
     )?;
     assert_eq!(rt; seen.cause, Cause::Done);
+    check_passes(
+        rt,
+        "audit-matrix",
+        matrix.as_bytes(),
+        quotas.as_bytes(),
+        &seen.out,
+    )?;
     Ok(seen.out)
 }
 
@@ -149,6 +155,11 @@ fn shares_and_scaling(rt: HostRuntime) -> Result<(), Fail> {
             ],
         )
     );
+    let most = decomposed(&rt, "agent,a\nx,1000\n", "")?;
+    assert_eq!(rt;
+        most.as_slice(),
+        b"lottery,1\ndenominator,1\nagents,x\nobjects,a\nrow,x,1000\npiece,1,1\ngive,x,a,1000\nend,1\n".as_slice()
+    );
     for share in ["1/0", ".5", "5.", "-1"] {
         let matrix = format!(in rt.alloc(); "agent,a\nx,{share}\n")?;
         check_decompose_refused(&rt, &matrix, "", 3, "input: file 1 record 2 kind 10\n")?;
@@ -175,11 +186,5 @@ fn no_object_at_all(rt: HostRuntime) -> Result<(), Fail> {
         text.as_slice(),
         b"lottery,1\ndenominator,1\nagents,x\nobjects\nrow,x\npiece,1,1\nend,1\n".as_slice()
     );
-    Ok(())
-}
-
-#[test]
-fn failing_devices(rt: HostRuntime) -> Result<(), Fail> {
-    check_failing_devices(&rt, &["decompose", "matrix.csv", "quotas.csv"], 2)?;
     Ok(())
 }

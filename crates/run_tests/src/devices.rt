@@ -1,5 +1,6 @@
 // Runs of `run` over devices of which a call fails.
-use crate::runs::{PLAIN, Seen, one_file, two_files, words_of};
+use crate::cases::{Case, LEAST_CROSSING_PAIR};
+use crate::runs::{PLAIN, Seen, ZEROS, two_files, words_of};
 use alloc_cli::{Cause, run};
 use device_core::{MemoryFiles, MemorySink, SureFiles, SureSink};
 use std::alloc::{AllocError, Global};
@@ -89,62 +90,121 @@ fn run_failing(alloc: Global, words: &[&str], call: u64, kept: usize) -> Result<
     })
 }
 
-// Each call of `out` fails in turn, a write after none, one or all of its bytes, until a run ends
-// with Done. The last call that can fail is the flush, after the whole text.
+// A call of `out` failed, after which `out` has so many bytes, the first of the whole text.
+fn check_write_fault(rt: &(impl Abort + AllocGlobal), seen: &Seen, whole: &[u8], length: usize) {
+    assert_eq!(rt; seen.cause, Cause::WriteFault);
+    assert_eq!(rt; seen.status, 4);
+    assert_eq!(rt; seen.err.as_slice(), b"write\n".as_slice());
+    assert_eq!(rt; seen.out.len(), length);
+    assert!(rt; whole.starts_with(seen.out.as_slice()), "other bytes");
+}
+
+// Each call of `out` fails in turn, a write after all, none, one or half of its bytes, until a run
+// ends with Done. The last call that can fail is the flush, after the whole text.
 fn check_failing_writes(rt: &(impl Abort + AllocGlobal), words: &[&str]) -> Result<(), AllocError> {
     let alloc = rt.alloc();
     let whole = run_failing(alloc, words, u64::MAX, 0)?.out;
-    let mut kept_last = 0usize;
+    let mut before = 0usize;
     for call in 0..1000u64 {
-        for kept in [0usize, 1, usize::MAX] {
-            let seen = run_failing(alloc, words, call, kept)?;
-            if seen.cause == Cause::Done {
-                assert_eq!(rt; seen.out.as_slice(), whole.as_slice());
-                assert_eq!(rt; kept_last, whole.len());
-                return Ok(());
-            }
-            assert_eq!(rt; seen.cause, Cause::WriteFault);
-            assert_eq!(rt; seen.status, 4);
-            assert!(rt;
-                whole.starts_with(seen.out.as_slice()),
-                "call {call} keeps {kept}"
-            );
-            assert_eq!(rt; seen.err.as_slice(), b"write\n".as_slice());
-            kept_last = seen.out.len();
+        let after_all = run_failing(alloc, words, call, usize::MAX)?;
+        if after_all.cause == Cause::Done {
+            assert_eq!(rt; after_all.out.as_slice(), whole.as_slice());
+            assert_eq!(rt; before, whole.len());
+            return Ok(());
         }
+        let after = after_all.out.len();
+        check_write_fault(rt, &after_all, &whole, after);
+        let size = after.wrapping_sub(before);
+        for kept in [0, 1, size / 2] {
+            let length = before.wrapping_add(size.min(kept));
+            check_write_fault(rt, &run_failing(alloc, words, call, kept)?, &whole, length);
+        }
+        before = after;
     }
     assert!(rt; false, "no run ends with Done");
     Ok(())
 }
 
-// The same of both devices of a command that loads so many files.
-pub(crate) fn check_failing_devices(
-    rt: &(impl Abort + AllocGlobal),
-    words: &[&str],
-    loads: u8,
-) -> Result<(), AllocError> {
-    check_failing_loads(rt, words, loads)?;
-    check_failing_writes(rt, words)
+// A call of `err`, how many bytes of the line it keeps, and how many `err` has in the end.
+const FAILING_LINES: [(u64, usize, usize); 5] = [
+    (0, 0, 0),
+    (0, 1, 1),
+    (0, 3, 3),
+    (0, usize::MAX, 6),
+    (1, 0, 6),
+];
+
+// Where `out` fails, each call of `err` fails too: the write of the line, and the flush. Status and
+// cause stay.
+fn check_failing_lines(rt: &(impl Abort + AllocGlobal), words: &[&str]) -> Result<(), AllocError> {
+    let alloc = rt.alloc();
+    let words = words_of(alloc, words)?;
+    for (call, kept, length) in FAILING_LINES {
+        let mut files = SureFiles::new(device_files(alloc)?);
+        let mut out = MemorySink::new(alloc, vec![in alloc; (0, 0)]?);
+        let mut err = MemorySink::new(alloc, vec![in alloc; (call, kept)]?);
+        let ended = run(alloc, &words, &mut files, &mut out, &mut err);
+        assert_eq!(rt; ended.cause, Cause::WriteFault);
+        assert_eq!(rt; ended.status, 4);
+        assert_eq!(rt; err.bytes().len(), length);
+        assert!(rt; b"write\n".starts_with(err.bytes()), "other bytes");
+    }
+    Ok(())
 }
 
-// Whichever call of `err` fails, status and cause stay, and `err` has a front of the line.
+// Each command on lawful files, and how many it loads.
+const COMMANDS: [(&[&str], u8); 12] = [
+    (&["pick", "lottery.csv", "1"], 1),
+    (&["draw", "lottery.csv", ZEROS], 1),
+    (&["solve", "prefs.csv", "quotas.csv"], 2),
+    (&["sets", "prefs.csv", "quotas.csv"], 2),
+    (&["table", "prefs.csv", "quotas.csv"], 2),
+    (&["decompose", "matrix.csv", "quotas.csv"], 2),
+    (&["audit", "prefs.csv", "quotas.csv", "sound.csv"], 3),
+    (
+        &["audit-matrix", "matrix.csv", "quotas.csv", "split.csv"],
+        3,
+    ),
+    (&["report", "lottery.csv"], 1),
+    (&["generate", ZEROS, "4", "3"], 0),
+    (&["pact-commit", "Ada, \"A\"", ZEROS], 0),
+    (&["pact-draw", "lottery.csv", "pact.csv"], 2),
+];
+
+#[test]
+fn failing_devices(rt: HostRuntime) -> Result<(), Fail> {
+    for (words, loads) in COMMANDS {
+        check_failing_loads(&rt, words, loads)?;
+        check_failing_writes(&rt, words)?;
+        check_failing_lines(&rt, words)?;
+    }
+    Ok(())
+}
+
+// Whichever call of `err` fails, the cause is that of the files, and `err` has a front of the line.
 #[test]
 fn failing_err(rt: HostRuntime) -> Result<(), Fail> {
     let alloc = rt.alloc();
-    let words = words_of(alloc, &["pick", "lottery.csv", "2"])?;
-    let due = Cause::TicketOutOfRange {
-        ticket: 2,
-        denominator: 2,
-    };
+    let words = words_of(alloc, &["solve", "prefs.csv", "quotas.csv"])?;
+    let Case { prefs, quotas } = LEAST_CROSSING_PAIR;
     for call in 0..8u64 {
-        let mut failing = Vec::new(alloc);
-        failing.push((call, 1))?;
-        let mut files = SureFiles::new(one_file(alloc, PLAIN.as_bytes())?);
-        let (mut out, mut err) = (SureSink::new(alloc), MemorySink::new(alloc, failing));
+        let mut files = SureFiles::new(two_files(alloc, prefs, quotas)?);
+        let mut out = SureSink::new(alloc);
+        let mut err = MemorySink::new(alloc, vec![in alloc; (call, 1)]?);
         let ended = run(alloc, &words, &mut files, &mut out, &mut err);
-        assert_eq!(rt; ended.cause, due);
+        assert_eq!(rt;
+            ended.cause,
+            Cause::Crossing {
+                first: 2,
+                second: 3
+            }
+        );
         assert_eq!(rt; ended.status, 3);
-        assert!(rt; b"ticket: 2 of 2\n".starts_with(err.bytes()), "at {call}");
+        assert!(rt; out.bytes().is_empty());
+        assert!(rt;
+            b"crossing: sets 2 3\n".starts_with(err.bytes()),
+            "at {call}"
+        );
     }
     Ok(())
 }

@@ -1,16 +1,21 @@
 // `draw`: the piece of the ticket that a seed names.
-use crate::devices::check_failing_devices;
-use crate::runs::{PRICED_THREE, PRICED_TWO, run_on};
+use crate::runs::{PRICED_THREE, PRICED_TWO, ZEROS, run_on};
 use std::alloc::AllocError;
 use std::process::Abort;
 use std::test::Fail;
 
-// The digits of a seed of zeros.
-const ZEROS: &str = "0000000000000000000000000000000000000000000000000000000000000000";
-
 // A lottery of one agent and one ticket.
 const ONE_TICKET: &str = "lottery,1\ndenominator,1\nagents,x\nobjects,none\nrow,x,1\n\
 worth,x,none,0\npiece,1,1\ngive,x,none,1\nend,1\n";
+
+// A denominator, and the ticket of it that the seed of zeros names.
+const TICKETS_OF_ZEROS: [(&str, &str); 2] = [
+    ("3", "2"),
+    (
+        "83076749736557242056487941267521536",
+        "70224348985984523983153860465178742",
+    ),
+];
 
 // What is written of the last ticket of the lottery of three agents.
 const LAST_OF_SIX: &str = "ticket,5,6\npiece,4,2\ngive,x,none,1\ngive,y,a,1\ngive,z,b,1\nend,3\n";
@@ -41,6 +46,23 @@ fn draw_over_one(rt: HostRuntime) -> Result<(), Fail> {
         "ffffffffffffffffffffffffffffffffffffffffffffffffffffffffffffffff",
     ] {
         check_draw(&rt, ONE_TICKET, seed, 0, only, "")?;
+    }
+    Ok(())
+}
+
+// The stream of the seed of zeros begins with the bytes 76 b8 e0 ad a0 f1 3d 90 40 5d 6a e5 53 86 bd 28,
+// of which the last two bits, or the last 116, are the ticket.
+#[test]
+fn first_candidate(rt: HostRuntime) -> Result<(), Fail> {
+    for (denominator, ticket) in TICKETS_OF_ZEROS {
+        let text = format!(in rt.alloc();
+            "lottery,1\ndenominator,{denominator}\nagents,x\nobjects,none\nrow,x,{denominator}\n\
+worth,x,none,0\npiece,1,{denominator}\ngive,x,none,1\nend,1\n"
+        )?;
+        let drawn = format!(in rt.alloc();
+            "ticket,{ticket},{denominator}\npiece,1,{denominator}\ngive,x,none,1\nend,1\n"
+        )?;
+        check_draw(&rt, &text, ZEROS, 0, &drawn, "")?;
     }
     Ok(())
 }
@@ -120,11 +142,5 @@ fn digits_of_seeds(rt: HostRuntime) -> Result<(), Fail> {
 #[test]
 fn unlawful_lottery(rt: HostRuntime) -> Result<(), Fail> {
     check_draw(&rt, "", ZEROS, 3, "", "lottery: record 1 kind 7\n")?;
-    Ok(())
-}
-
-#[test]
-fn failing_devices(rt: HostRuntime) -> Result<(), Fail> {
-    check_failing_devices(&rt, &["draw", "lottery.csv", ZEROS], 1)?;
     Ok(())
 }

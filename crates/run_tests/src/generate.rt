@@ -1,13 +1,9 @@
 // `generate`: the summary of a lottery for a problem that a seed makes.
-use crate::devices::check_failing_devices;
-use crate::runs::{Seen, run_alone};
+use crate::runs::{Seen, ZEROS, run_alone};
 use alloc_cli::Cause;
 use std::alloc::{AllocError, Global};
 use std::process::Abort;
 use std::test::Fail;
-
-// The digits of a seed of zeros.
-const ZEROS: &str = "0000000000000000000000000000000000000000000000000000000000000000";
 
 // A run of `generate` for these numbers.
 fn generate(alloc: Global, seed: &str, agents: &str, objects: &str) -> Result<Seen, AllocError> {
@@ -91,11 +87,5 @@ fn sizes_and_seeds(rt: HostRuntime) -> Result<(), Fail> {
     }
     let most_objects = generate(rt.alloc(), ZEROS, "3", "200")?;
     assert_eq!(rt; most_objects.cause, Cause::Done);
-    Ok(())
-}
-
-#[test]
-fn failing_devices(rt: HostRuntime) -> Result<(), Fail> {
-    check_failing_devices(&rt, &["generate", ZEROS, "4", "3"], 0)?;
     Ok(())
 }

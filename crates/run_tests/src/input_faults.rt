@@ -32,6 +32,12 @@ fn faults_of_a_problem(rt: HostRuntime) -> Result<(), Fail> {
     }
     let star = "input: file 1 record 2 kind 2\n";
     check_both(&rt, "sets", b"agent\nx,*\n", b"", 3, "", star)?;
+    check_both(&rt, "sets", b"agent\n*\n", b"", 3, "", star)?;
+    let letters = "aaaaaaaaaaaaaaaaaaaaaaaaaaaaaaaaaaaaaaaaaaaaaaaaaaaaaaaaaaaaaaaa";
+    let longest = format!(in rt.alloc(); "agent\n{letters}\n")?;
+    check_both(&rt, "sets", longest.as_bytes(), b"", 0, "end,0\n", "")?;
+    let long = format!(in rt.alloc(); "agent\n{letters}a\n")?;
+    check_both(&rt, "sets", long.as_bytes(), b"", 3, "", star)?;
     let mut sets = numbered_lines(rt.alloc(), "set,S", ",2", 1000)?;
     sets.extend_from_slice(b"object,a\n")?;
     let many = "input: file 2 record 1001 kind 17\n";

@@ -1,7 +1,6 @@
 // `pact-commit` and `pact-draw`: a seed that several parties make, and what is drawn with it. The
 // digests, the seeds and their tickets were made by an independent program.
-use crate::devices::check_failing_devices;
-use crate::runs::{PRICED_THREE, check_both, run_alone, run_on_both};
+use crate::runs::{PRICED_THREE, ZEROS, check_both, run_alone, run_on_both};
 use std::alloc::AllocError;
 use std::process::Abort;
 use std::test::Fail;
@@ -9,9 +8,6 @@ use std::test::Fail;
 // A lottery of one agent and one ticket.
 const ONE_TICKET: &str = "lottery,1\ndenominator,1\nagents,x\nobjects,none\nrow,x,1\n\
 worth,x,none,0\npiece,1,1\ngive,x,none,1\nend,1\n";
-
-// A contribution of zeros.
-const ZEROS: &str = "0000000000000000000000000000000000000000000000000000000000000000";
 
 // A pact of one party, record by record.
 const ALONE: [&str; 3] = [
@@ -174,12 +170,5 @@ fn unlawful_words(rt: HostRuntime) -> Result<(), Fail> {
         assert!(rt; seen.out.is_empty());
         assert_eq!(rt; seen.err.as_slice(), b"usage\n".as_slice());
     }
-    Ok(())
-}
-
-#[test]
-fn failing_devices(rt: HostRuntime) -> Result<(), Fail> {
-    check_failing_devices(&rt, &["pact-commit", "Ada, \"A\"", ZEROS], 0)?;
-    check_failing_devices(&rt, &["pact-draw", "lottery.csv", "pact.csv"], 2)?;
     Ok(())
 }

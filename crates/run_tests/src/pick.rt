@@ -1,5 +1,4 @@
 // `pick`: the piece of a ticket.
-use crate::devices::check_failing_devices;
 use crate::runs::{PLAIN, PRICED_THREE, PRICED_TWO, Seen, one_file, run_on, words_of};
 use alloc_cli::{Cause, run};
 use device_core::{MemoryFiles, MemorySink};
@@ -221,11 +220,5 @@ fn limits_of_lotteries(rt: HostRuntime) -> Result<(), Fail> {
         "",
         "usage\n",
     )?;
-    Ok(())
-}
-
-#[test]
-fn failing_devices(rt: HostRuntime) -> Result<(), Fail> {
-    check_failing_devices(&rt, &["pick", "lottery.csv", "1"], 1)?;
     Ok(())
 }

@@ -1,5 +1,4 @@
 // `report`: the summary of a lottery.
-use crate::devices::check_failing_devices;
 use crate::runs::{PLAIN, PRICED_THREE, PRICED_TWO, run_on};
 use alloc_cli::Cause;
 use std::alloc::AllocError;
@@ -66,11 +65,5 @@ fn truncated_lottery(rt: HostRuntime) -> Result<(), Fail> {
     }
     check_report(&rt, &text[..whole - 1], 0, SUMMARY_OF_THREE, "")?;
     check_report(&rt, b"", 3, "", "lottery: record 1 kind 7\n")?;
-    Ok(())
-}
-
-#[test]
-fn failing_devices(rt: HostRuntime) -> Result<(), Fail> {
-    check_failing_devices(&rt, &["report", "lottery.csv"], 1)?;
     Ok(())
 }

@@ -4,6 +4,9 @@ use device_core::{SureFiles, SureSink};
 use std::alloc::{AllocError, Global};
 use std::process::Abort;
 
+// The digits of a seed of zeros.
+pub(crate) const ZEROS: &str = "0000000000000000000000000000000000000000000000000000000000000000";
+
 // A lottery without prices: two agents, two objects, two pieces.
 pub(crate) const PLAIN: &str =
     "lottery,1\ndenominator,2\nagents,x,y\nobjects,a,b\nrow,x,1,1\nrow,y,1,1\n\
@@ -122,6 +125,25 @@ pub(crate) fn run_on_three(
     let words = [command, "prefs.csv", "quotas.csv", "lottery.csv"];
     let files = three_files(alloc, prefs, quotas, lottery)?;
     run_over(alloc, &words, files)
+}
+
+// This audit of a lottery for two files ends with `pass`.
+pub(crate) fn check_passes(
+    rt: &(impl Abort + AllocGlobal),
+    command: &str,
+    first: &[u8],
+    second: &[u8],
+    lottery: &[u8],
+) -> Result<(), AllocError> {
+    let seen = run_on_three(rt.alloc(), command, first, second, lottery)?;
+    assert_eq!(rt; seen.err.as_slice(), b"".as_slice(), "err of {command}");
+    assert_eq!(rt; seen.status, 0, "status of {command}");
+    assert_eq!(rt;
+        seen.out.as_slice(),
+        b"pass\n".as_slice(),
+        "out of {command}"
+    );
+    Ok(())
 }
 
 // A run of this command over these files.

@@ -2,7 +2,6 @@
 use crate::cases::{
     AS_A_SPREADSHEET_WRITES_IT, Case, EQUAL_AND_EMPTY_SETS, LEAST_CROSSING_PAIR, check_input_faults,
 };
-use crate::devices::check_failing_devices;
 use crate::runs::check_both;
 use std::alloc::{AllocError, Global};
 use std::process::Abort;
@@ -93,11 +92,5 @@ fn limits_of_inputs(rt: HostRuntime) -> Result<(), Fail> {
     check_sets_refused(&rt, &agents, &cells, "input: file 2 record 210 kind 17\n")?;
     agents.extend_from_slice(b"one_more\n")?;
     check_sets_refused(&rt, &agents, &cells, "input: file 1 record 1002 kind 17\n")?;
-    Ok(())
-}
-
-#[test]
-fn failing_devices(rt: HostRuntime) -> Result<(), Fail> {
-    check_failing_devices(&rt, &["sets", "prefs.csv", "quotas.csv"], 2)?;
     Ok(())
 }

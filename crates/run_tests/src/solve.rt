@@ -4,8 +4,7 @@ use crate::cases::{
     FULL_AT_THE_END, LEAST_CROSSING_PAIR, MOMENT_ZERO_IS_RANKED, SET_FULL_BEFORE_ITS_COLUMN,
     TIED_MOMENT, UNEATEN_PLACE, chain_of, check_each_refused, check_input_faults,
 };
-use crate::devices::check_failing_devices;
-use crate::runs::{check_both, run_on, run_on_both};
+use crate::runs::{ZEROS, check_both, check_passes, run_on, run_on_both};
 use crate::texts::{count_of, has_pieces, has_record};
 use alloc_cli::Cause;
 use std::alloc::AllocError;
@@ -20,7 +19,7 @@ struct Expected {
     pieces: &'static [&'static str],
 }
 
-// What `solve` writes.
+// What `solve` writes. An audit of it passes.
 fn solved(
     rt: &(impl Abort + AllocGlobal),
     prefs: &[u8],
@@ -30,6 +29,7 @@ fn solved(
     assert_eq!(rt; seen.cause, Cause::Done);
     assert_eq!(rt; seen.status, 0);
     assert!(rt; seen.err.is_empty());
+    check_passes(rt, "audit", prefs, quotas, &seen.out)?;
     Ok(seen.out)
 }
 
@@ -68,6 +68,7 @@ fn empty_problem(rt: HostRuntime) -> Result<(), Fail> {
 piece,1,1\ngive,x,none,1\nend,1\n",
         "",
     )?;
+    solved(&rt, b"agent\nx\n", b"")?;
     Ok(())
 }
 
@@ -234,7 +235,7 @@ worth,1,a,6\nworth,1,b,1\nworth,1,c,0\nworth,1,d,-1\nworth,1,none,-2\n"
 #[test]
 fn largest_denominator(rt: HostRuntime) -> Result<(), Fail> {
     let alloc = rt.alloc();
-    let (prefs, quotas) = chain_of(alloc, 73)?;
+    let (prefs, quotas) = chain_of(alloc, &["x", "y"], 73)?;
     let text = solved(&rt, &prefs, &quotas)?;
     assert!(rt; has_record(&text, "denominator,67585198634817523235520443624317923"));
     let last = "67585198634817523235520443624317922";
@@ -246,9 +247,29 @@ fn largest_denominator(rt: HostRuntime) -> Result<(), Fail> {
     Ok(())
 }
 
+// One agent who lists 116 objects: each next one is full when half of the time that was left is over.
+#[test]
+fn denominator_at_the_limit(rt: HostRuntime) -> Result<(), Fail> {
+    let alloc = rt.alloc();
+    let (prefs, quotas) = chain_of(alloc, &["x"], 116)?;
+    let text = solved(&rt, &prefs, &quotas)?;
+    assert!(rt; has_record(&text, "denominator,83076749736557242056487941267521536"));
+    let summary = run_on(alloc, &["report", "lottery.csv"], &text)?;
+    let front =
+        b"{\"agents\":117,\"columns\":117,\"denominator\":\"83076749736557242056487941267521536\",";
+    assert!(rt; summary.out.starts_with(front));
+    let drawn = run_on(alloc, &["draw", "lottery.csv", ZEROS], &text)?;
+    let front = b"ticket,70224348985984523983153860465178742,83076749736557242056487941267521536\n";
+    assert!(rt; drawn.out.starts_with(front));
+    let (prefs, quotas) = chain_of(alloc, &["x"], 117)?;
+    let line = "too fine: 166153499473114484112975882535043072\n";
+    check_both(&rt, "solve", &prefs, &quotas, 5, "", line)?;
+    Ok(())
+}
+
 #[test]
 fn one_too_fine(rt: HostRuntime) -> Result<(), Fail> {
-    let (prefs, quotas) = chain_of(rt.alloc(), 74)?;
+    let (prefs, quotas) = chain_of(rt.alloc(), &["x", "y"], 74)?;
     let line = "too fine: 202755595904452569706561330872953769\n";
     check_both(&rt, "solve", &prefs, &quotas, 5, "", line)?;
     Ok(())
@@ -309,11 +330,5 @@ fn demand_records(rt: HostRuntime) -> Result<(), Fail> {
             ),
         ],
     )?;
-    Ok(())
-}
-
-#[test]
-fn failing_devices(rt: HostRuntime) -> Result<(), Fail> {
-    check_failing_devices(&rt, &["solve", "prefs.csv", "quotas.csv"], 2)?;
     Ok(())
 }

@@ -3,7 +3,6 @@ use crate::cases::{
     Case, ENVY_BETWEEN_DEMANDS_OF_TWO, EQUAL_AND_EMPTY_SETS, FULL_AT_THE_END,
     MOMENT_ZERO_IS_RANKED, SET_FULL_BEFORE_ITS_COLUMN, TIED_MOMENT, UNEATEN_PLACE, chain_of,
 };
-use crate::devices::check_failing_devices;
 use crate::runs::{check_both, run_on_both};
 use crate::texts::has_record;
 use alloc_cli::Cause;
@@ -93,7 +92,7 @@ row,u,6,2,4\nrow,v,6,6,0\nrow,p,0,4,2\nend,3\n",
 
 #[test]
 fn largest_denominator(rt: HostRuntime) -> Result<(), Fail> {
-    let (prefs, quotas) = chain_of(rt.alloc(), 73)?;
+    let (prefs, quotas) = chain_of(rt.alloc(), &["x", "y"], 73)?;
     let seen = run_on_both(rt.alloc(), "table", &prefs, &quotas)?;
     assert_eq!(rt; seen.cause, Cause::Done);
     for record in [
@@ -109,7 +108,7 @@ fn largest_denominator(rt: HostRuntime) -> Result<(), Fail> {
 
 #[test]
 fn one_too_fine(rt: HostRuntime) -> Result<(), Fail> {
-    let (prefs, quotas) = chain_of(rt.alloc(), 74)?;
+    let (prefs, quotas) = chain_of(rt.alloc(), &["x", "y"], 74)?;
     check_both(
         &rt,
         "table",
@@ -119,11 +118,5 @@ fn one_too_fine(rt: HostRuntime) -> Result<(), Fail> {
         "",
         "too fine: 202755595904452569706561330872953769\n",
     )?;
-    Ok(())
-}
-
-#[test]
-fn failing_devices(rt: HostRuntime) -> Result<(), Fail> {
-    check_failing_devices(&rt, &["table", "prefs.csv", "quotas.csv"], 2)?;
     Ok(())
 }

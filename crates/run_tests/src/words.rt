@@ -15,7 +15,7 @@ fn cause_without_files(alloc: Global, words: &[&str]) -> Result<Cause, AllocErro
 
 #[test]
 fn usage_words(rt: HostRuntime) -> Result<(), Fail> {
-    let forms: [&[&str]; 27] = [
+    let forms: [&[&str]; 28] = [
         &["decompose", "matrix.csv"],
         &["solve", "prefs.csv"],
         &["table", "prefs.csv"],
@@ -32,6 +32,11 @@ fn usage_words(rt: HostRuntime) -> Result<(), Fail> {
         &["Pick", "lottery.csv", "1"],
         &["draw", "lottery.csv"],
         &["draw", "lottery.csv", "1"],
+        &[
+            "draw",
+            "lottery.csv",
+            "000000000000000000000000000000000000000000000000000000000000000",
+        ],
         &["report"],
         &["report", "lottery.csv", "1"],
         &["Report", "lottery.csv"],

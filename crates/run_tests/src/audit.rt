@@ -73,6 +73,15 @@ const TWO_PLACES: Case = Case {
 worth,x,a,1\nworth,x,none,0\npiece,1,1\ngive,x,a,1\ngive,x,none,2\nend,1\n",
 };
 
+// Places for all: an agent who demands three units has one of each of two objects, and `none` besides.
+const LARGE_PLACES: Case = Case {
+    prefs: "agent\nx,a\ny,b,a\n",
+    quotas: "object,a,,5\nobject,b,,5\nagent,y,3,3\n",
+    lottery: "lottery,1\ndenominator,4\nagents,x,y\nobjects,a,b,none\nrow,x,4,0,0\nrow,y,4,4,4\n\
+price,1,0\nprice,2,0\nworth,x,a,1\nworth,x,none,0\nworth,y,b,2\nworth,y,a,1\nworth,y,none,0\n\
+piece,1,4\ngive,x,a,1\ngive,y,a,1\ngive,y,b,1\ngive,y,none,1\nend,1\n",
+};
+
 // One agent who has one object for sure.
 const SURE: Case = Case {
     prefs: "agent\nx,a\n",
@@ -86,6 +95,15 @@ const HALVES: Case = Case {
     prefs: "agent,a,b\nx,1/2,1/2\ny,0.5,1/2\n",
     quotas: "agent,x,1,1\nagent,y,1,1\nobject,a,1,1\nobject,b,1,1\n",
     lottery: PLAIN,
+};
+
+// Shares in sixths without quotas, in pieces of several weights.
+const SIXTHS: Case = Case {
+    prefs: "agent,a,b\nx,1/6,5/6\ny,1/2,1/3\n",
+    quotas: "",
+    lottery: "lottery,1\ndenominator,6\nagents,x,y\nobjects,a,b\nrow,x,1,5\nrow,y,3,2\n\
+piece,1,1\ngive,x,a,1\ngive,y,a,1\npiece,2,2\ngive,x,b,1\ngive,y,a,1\n\
+piece,3,2\ngive,x,b,1\ngive,y,b,1\npiece,4,1\ngive,x,b,1\nend,4\n",
 };
 
 // The text with its one part `old` exchanged for `new`.
@@ -150,11 +168,14 @@ fn sound_lotteries(rt: HostRuntime) -> Result<(), Fail> {
         DEMANDS_OF_TWO,
         SHORT_LIST,
         TWO_PLACES,
+        LARGE_PLACES,
         SURE,
     ] {
         check_case(&rt, "audit", case, "")?;
     }
-    check_case(&rt, "audit-matrix", HALVES, "")?;
+    for case in [HALVES, SIXTHS] {
+        check_case(&rt, "audit-matrix", case, "")?;
+    }
     // A capped cell with all that it may have is left out as a better place.
     check_change(&rt, "audit", DEMAND_OF_THREE, "price,1,3", "price,1,0", "")?;
     // A worth may be as low as this.
@@ -212,73 +233,121 @@ fn prices_at_their_limit(rt: HostRuntime) -> Result<(), Fail> {
     Ok(())
 }
 
+// A case, a part of its lottery, what stands there instead, and the line that is due.
+type Change = (Case, &'static str, &'static str, &'static str);
+
+// Changes of one record or two, for each check of `audit`.
+const AUDIT_FAULTS: [Change; 20] = [
+    (THREE, "price,2,4\n", "", "audit failed: 3 2 1\n"),
+    (
+        THREE,
+        "worth,z,b,4\nworth,z,a,1",
+        "worth,z,a,4\nworth,z,b,1",
+        "audit failed: 4 3 1\n",
+    ),
+    (THREE, "row,x,3,1,2", "row,x,3,1,1", "audit failed: 7 1 5\n"),
+    (
+        SHORT_LIST,
+        "row,x,0,1,0",
+        "row,x,1,0,0",
+        "audit failed: 8 1 1 1\n",
+    ),
+    (THREE, "row,x,3,1,2", "row,x,4,0,2", "audit failed: 9 1 7\n"),
+    (
+        TWO_PLACES,
+        "row,x,1,2",
+        "row,x,2,1",
+        "audit failed: 18 1 1 2\n",
+    ),
+    (
+        DEMANDS_OF_TWO,
+        "row,p,0,4,2",
+        "row,p,4,0,2",
+        "audit failed: 8 3 1 4\n",
+    ),
+    (
+        LARGE_PLACES,
+        "row,y,4,4,4",
+        "row,y,5,3,4",
+        "audit failed: 18 2 1 5\n",
+    ),
+    (
+        THREE,
+        "worth,z,a,1",
+        "worth,z,a,4",
+        "audit failed: 10 3 1 4 4\n",
+    ),
+    (
+        THREE,
+        "worth,z,none,0",
+        "worth,z,none,5",
+        "audit failed: 10 3 2 1 5\n",
+    ),
+    (
+        LARGE_PLACES,
+        "price,2,0",
+        "price,2,7",
+        "audit failed: 11 2 7 4\n",
+    ),
+    (
+        THREE,
+        "price,1,8\nprice,2,4",
+        "price,1,0\nprice,2,0",
+        "audit failed: 12 1 2 4 1 8\n",
+    ),
+    (
+        TWO,
+        "price,1,4",
+        "price,1,1099511627776",
+        "audit failed: 12 1 1 -1099511627772 2 0\n",
+    ),
+    (
+        SURE,
+        "piece,1,2\ngive,x,a,1\nend,1",
+        "piece,1,1\ngive,x,a,1\npiece,2,1\ngive,x,a,1\nend,2",
+        "audit failed: 13 2 1\n",
+    ),
+    (
+        THREE,
+        "give,y,b,1\ngive,z,none,1",
+        "give,y,b,1\ngive,z,a,1",
+        "audit failed: 14 1 3 1 1\n",
+    ),
+    (
+        THREE,
+        "give,y,b,1\ngive,z,none,1",
+        "give,y,a,1\ngive,z,none,1",
+        "audit failed: 15 1 1 2\n",
+    ),
+    (
+        THREE,
+        "give,z,b,1\nend,4",
+        "give,z,b,5\nend,4",
+        "audit failed: 14 4 3 2 5\n",
+    ),
+    (
+        THREE,
+        "give,z,b,1\nend,4",
+        "end,4",
+        "audit failed: 15 4 2 0\n",
+    ),
+    (
+        THREE,
+        "give,x,none,1\ngive,y,a,1\ngive,z,b,1\nend,4",
+        "give,y,a,1\ngive,z,b,1\nend,4",
+        "audit failed: 15 4 3 0\n",
+    ),
+    (
+        THREE,
+        "piece,3,1\ngive,x,b,1\ngive,y,a,1",
+        "piece,3,1\ngive,x,a,1\ngive,y,b,1",
+        "audit failed: 16 1 3\n",
+    ),
+];
+
 #[test]
 fn audit_faults(rt: HostRuntime) -> Result<(), Fail> {
-    for (case, old, new, line) in [
-        (THREE, "price,2,4\n", "", "audit failed: 3 2 1\n"),
-        (
-            THREE,
-            "worth,z,b,4\nworth,z,a,1",
-            "worth,z,a,4\nworth,z,b,1",
-            "audit failed: 4 3 1\n",
-        ),
-        (THREE, "row,x,3,1,2", "row,x,3,1,1", "audit failed: 7 1 5\n"),
-        (
-            SHORT_LIST,
-            "row,x,0,1,0",
-            "row,x,1,0,0",
-            "audit failed: 8 1 1 1\n",
-        ),
-        (THREE, "row,x,3,1,2", "row,x,4,0,2", "audit failed: 9 1 7\n"),
-        (
-            TWO_PLACES,
-            "row,x,1,2",
-            "row,x,2,1",
-            "audit failed: 18 1 1 2\n",
-        ),
-        (
-            THREE,
-            "worth,z,a,1",
-            "worth,z,a,4",
-            "audit failed: 10 3 1 4 4\n",
-        ),
-        (
-            THREE,
-            "price,1,8\nprice,2,4",
-            "price,1,0\nprice,2,0",
-            "audit failed: 12 1 2 4 1 8\n",
-        ),
-        (
-            TWO,
-            "price,1,4",
-            "price,1,1099511627776",
-            "audit failed: 12 1 1 -1099511627772 2 0\n",
-        ),
-        (
-            SURE,
-            "piece,1,2\ngive,x,a,1\nend,1",
-            "piece,1,1\ngive,x,a,1\npiece,2,1\ngive,x,a,1\nend,2",
-            "audit failed: 13 2 1\n",
-        ),
-        (
-            THREE,
-            "give,y,b,1\ngive,z,none,1",
-            "give,y,b,1\ngive,z,a,1",
-            "audit failed: 14 1 3 1 1\n",
-        ),
-        (
-            THREE,
-            "give,y,b,1\ngive,z,none,1",
-            "give,y,a,1\ngive,z,none,1",
-            "audit failed: 15 1 1 2\n",
-        ),
-        (
-            THREE,
-            "piece,3,1\ngive,x,b,1\ngive,y,a,1",
-            "piece,3,1\ngive,x,a,1\ngive,y,b,1",
-            "audit failed: 16 1 3\n",
-        ),
-    ] {
+    for (case, old, new, line) in AUDIT_FAULTS {
         check_change(&rt, "audit", case, old, new, line)?;
     }
     let first = exchanged(&rt, THREE.lottery, "piece,1,1", "piece,1,2")?;
@@ -305,6 +374,11 @@ fn audits_for_other_files(rt: HostRuntime) -> Result<(), Fail> {
             "audit failed: 1 3\n",
         ),
         ("agent\nx,a,b\ny,a,b\n", THREE.quotas, "audit failed: 1 3\n"),
+        (
+            "agent\nx,a,b\ny,a,b\nz,b\n",
+            THREE.quotas,
+            "audit failed: 4 3 2\n",
+        ),
         (
             THREE.prefs,
             "object,b,,1\nobject,a,,1\n",
@@ -344,6 +418,46 @@ fn audits_for_other_files(rt: HostRuntime) -> Result<(), Fail> {
     Ok(())
 }
 
+// The same for `audit-matrix`.
+const MATRIX_FAULTS: [Change; 6] = [
+    (
+        HALVES,
+        "row,x,1,1\n",
+        "row,x,2,0\n",
+        "audit failed: 6 1 1 1 2\n",
+    ),
+    (
+        SIXTHS,
+        "row,y,3,2\n",
+        "row,y,4,1\n",
+        "audit failed: 6 2 1 3 4\n",
+    ),
+    (
+        HALVES,
+        "give,y,b,1",
+        "give,y,a,1",
+        "audit failed: 15 1 3 2\n",
+    ),
+    (
+        HALVES,
+        "give,x,b,1\ngive,y,a,1",
+        "give,x,a,1\ngive,y,b,1",
+        "audit failed: 16 1 2\n",
+    ),
+    (
+        SIXTHS,
+        "give,x,b,1\nend,4",
+        "give,x,b,1\ngive,y,a,1\nend,4",
+        "audit failed: 16 2 4\n",
+    ),
+    (
+        SIXTHS,
+        "piece,2,2\ngive,x,b,1\ngive,y,a,1\npiece,3,2",
+        "piece,2,3\ngive,x,b,1\ngive,y,a,1\npiece,3,1",
+        "audit failed: 17 2 1 4 3\n",
+    ),
+];
+
 #[test]
 fn audit_matrix_faults(rt: HostRuntime) -> Result<(), Fail> {
     let others = "agent,a,b\nx,1/2,1/2\nz,0.5,1/2\n";
@@ -372,16 +486,21 @@ fn audit_matrix_faults(rt: HostRuntime) -> Result<(), Fail> {
             line,
         )?;
     }
-    for (old, new, line) in [
-        ("row,x,1,1\n", "row,x,2,0\n", "audit failed: 6 1 1 1 2\n"),
-        ("give,y,b,1", "give,y,a,1", "audit failed: 15 1 3 2\n"),
-        (
-            "give,x,b,1\ngive,y,a,1",
-            "give,x,a,1\ngive,y,b,1",
-            "audit failed: 16 1 2\n",
-        ),
-    ] {
-        check_change(&rt, "audit-matrix", HALVES, old, new, line)?;
+    for (case, old, new, line) in MATRIX_FAULTS {
+        check_change(&rt, "audit-matrix", case, old, new, line)?;
     }
+    check_several_equal(&rt)?;
     Ok(())
+}
+
+// Of the pieces 2, 5 and 7 that give one thing, and 3 and 4 that give another, the least pair is named.
+fn check_several_equal(rt: &(impl Abort + AllocGlobal)) -> Result<(), AllocError> {
+    let case = Case {
+        prefs: "agent,a,b,c,d,e,f,g\nx,1/7,1/7,1/7,1/7,1/7,1/7,1/7\n",
+        quotas: "",
+        lottery: "lottery,1\ndenominator,7\nagents,x\nobjects,a,b,c,d,e,f,g\nrow,x,1,1,1,1,1,1,1\n\
+piece,1,1\ngive,x,a,1\npiece,2,1\ngive,x,b,1\npiece,3,1\ngive,x,c,1\npiece,4,1\ngive,x,c,1\n\
+piece,5,1\ngive,x,b,1\npiece,6,1\ngive,x,d,1\npiece,7,1\ngive,x,b,1\nend,7\n",
+    };
+    check_case(rt, "audit-matrix", case, "audit failed: 16 2 5\n")
 }

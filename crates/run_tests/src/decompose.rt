@@ -107,13 +107,16 @@ fn scaling_refused(rt: HostRuntime) -> Result<(), Fail> {
     let line = "too fine: 83076749736557242056487941267521537\n";
     check_decompose_refused(&rt, fine, "", 5, line)?;
     check_decompose_refused(&rt, fine, "unknown\n", 5, line)?;
-    check_decompose_refused(
-        &rt,
-        "agent,a,b\nx,1000,1\n",
-        "",
-        3,
-        "over total: agent 1 column 2\n",
-    )?;
+    let total = "over total: agent 1 column 2\n";
+    check_decompose_refused(&rt, "agent,a,b\nx,1000,1\n", "", 3, total)?;
+    check_decompose_refused(&rt, "agent,a,b,c\nx,500,1001/2,1/2\n", "", 3, total)?;
+    let later = "agent,a,b,c\nx,1000,1,1/83076749736557242056487941267521537\n";
+    check_decompose_refused(&rt, later, "", 5, line)?;
+    // The least common multiple of 2^116 and 3^73 is above 2^128.
+    let both =
+        "agent,a,b\nx,1/83076749736557242056487941267521536,1/67585198634817523235520443624317923\n";
+    let greatest = "too fine: 340282366920938463463374607431768211455\n";
+    check_decompose_refused(&rt, both, "", 5, greatest)?;
     Ok(())
 }
 

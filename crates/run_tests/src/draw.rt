@@ -8,13 +8,60 @@ use std::test::Fail;
 const ONE_TICKET: &str = "lottery,1\ndenominator,1\nagents,x\nobjects,none\nrow,x,1\n\
 worth,x,none,0\npiece,1,1\ngive,x,none,1\nend,1\n";
 
-// A denominator, and the ticket of it that the seed of zeros names.
-const TICKETS_OF_ZEROS: [(&str, &str); 2] = [
-    ("3", "2"),
+// Seeds whose last byte is 1, or whose bytes are their places.
+const ONE: &str = "0000000000000000000000000000000000000000000000000000000000000001";
+
+const RISING: &str = "000102030405060708090a0b0c0d0e0f101112131415161718191a1b1c1d1e1f";
+
+// A seed, a denominator, and the ticket of it that the seed names. An independent program computed them
+// from RFC 8439.
+const TICKETS: [(&str, &str, &str); 14] = [
+    (ZEROS, "2", "0"),
+    (ZEROS, "3", "2"),
+    (ZEROS, "5", "2"),
+    (ZEROS, "6", "5"),
+    (ZEROS, "7", "6"),
     (
+        ZEROS,
+        "70096007590220172985161700444471296",
+        "69924542042510173920004150337852093",
+    ),
+    (
+        ZEROS,
+        "79228162514264337593543950337",
+        "19768527212874827308620923354",
+    ),
+    (
+        ZEROS,
+        "41538374868278621028243970633760769",
+        "30802833107862423819976666531775338",
+    ),
+    (
+        ZEROS,
         "83076749736557242056487941267521536",
         "70224348985984523983153860465178742",
     ),
+    (
+        ONE,
+        "41538374868278621028243970633760769",
+        "24961430992547602093137714488732474",
+    ),
+    (
+        RISING,
+        "41538374868278621028243970633760769",
+        "25532408237440017377080677636781450",
+    ),
+    (
+        RISING,
+        "79228162514264337593543950337",
+        "36833238082100443202101968185",
+    ),
+    (
+        RISING,
+        "83076749736557242056487941267521536",
+        "56399713513292350517133772763954489",
+    ),
+    (RISING, "2", "1"),
 ];
 
 // What is written of the last ticket of the lottery of three agents.
@@ -42,7 +89,7 @@ fn draw_over_one(rt: HostRuntime) -> Result<(), Fail> {
     let only = "ticket,0,1\npiece,1,1\ngive,x,none,1\nend,1\n";
     for seed in [
         ZEROS,
-        "000102030405060708090a0b0c0d0e0f101112131415161718191a1b1c1d1e1f",
+        RISING,
         "ffffffffffffffffffffffffffffffffffffffffffffffffffffffffffffffff",
     ] {
         check_draw(&rt, ONE_TICKET, seed, 0, only, "")?;
@@ -50,11 +97,13 @@ fn draw_over_one(rt: HostRuntime) -> Result<(), Fail> {
     Ok(())
 }
 
-// The stream of the seed of zeros begins with the bytes 76 b8 e0 ad a0 f1 3d 90 40 5d 6a e5 53 86 bd 28,
-// of which the last two bits, or the last 116, are the ticket.
+// The stream of the seed of zeros begins with the bytes 76 b8 e0 ad a0 f1 3d 90 40 5d 6a e5 53 86 bd 28, of
+// which the last 116 bits are the ticket of 2^116. Of six tickets candidate 0 is 6, which is passed over, and
+// candidate 1 is 5. The ticket of 216 times 2^108 is candidate 1, that of 2^96 + 1 candidate 2, and that of
+// 2^115 + 1 candidate 3; of the seed 1 it is candidate 4, the first of the second block.
 #[test]
-fn first_candidate(rt: HostRuntime) -> Result<(), Fail> {
-    for (denominator, ticket) in TICKETS_OF_ZEROS {
+fn rejected_candidate(rt: HostRuntime) -> Result<(), Fail> {
+    for (seed, denominator, ticket) in TICKETS {
         let text = format!(in rt.alloc();
             "lottery,1\ndenominator,{denominator}\nagents,x\nobjects,none\nrow,x,{denominator}\n\
 worth,x,none,0\npiece,1,{denominator}\ngive,x,none,1\nend,1\n"
@@ -62,14 +111,8 @@ worth,x,none,0\npiece,1,{denominator}\ngive,x,none,1\nend,1\n"
         let drawn = format!(in rt.alloc();
             "ticket,{ticket},{denominator}\npiece,1,{denominator}\ngive,x,none,1\nend,1\n"
         )?;
-        check_draw(&rt, &text, ZEROS, 0, &drawn, "")?;
+        check_draw(&rt, &text, seed, 0, &drawn, "")?;
     }
-    Ok(())
-}
-
-// Of six tickets the first candidate of the seed of zeros is 6, and the second is 5.
-#[test]
-fn rejected_candidate(rt: HostRuntime) -> Result<(), Fail> {
     check_draw(&rt, PRICED_THREE, ZEROS, 0, LAST_OF_SIX, "")?;
     let first = "ticket,0,2\npiece,1,1\ngive,x,a,1\ngive,y,b,1\nend,2\n";
     check_draw(&rt, PRICED_TWO, ZEROS, 0, first, "")?;

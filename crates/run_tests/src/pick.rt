@@ -189,7 +189,7 @@ fn lottery_faults(rt: HostRuntime) -> Result<(), Fail> {
 
 #[test]
 fn limits_of_lotteries(rt: HostRuntime) -> Result<(), Fail> {
-    let cases: [(usize, &[u8], &str); 3] = [
+    let cases: [(usize, &[u8], &str); 4] = [
         (
             2,
             b"denominator,83076749736557242056487941267521537",
@@ -197,6 +197,7 @@ fn limits_of_lotteries(rt: HostRuntime) -> Result<(), Fail> {
         ),
         (7, b"price,1,1099511627777", "lottery: record 7 kind 8\n"),
         (9, b"worth,x,a,-1099511627777", "lottery: record 9 kind 8\n"),
+        (9, b"worth,x,a,1099511627777", "lottery: record 9 kind 8\n"),
     ];
     for (number, record, line) in cases {
         let text = with_record(rt.alloc(), PRICED_TWO, number, Some(record))?;

@@ -28,7 +28,7 @@ MOST = 60
 PIPE = 4096
 FILE_LIMIT = 67108864
 # How often a run is begun, until it is caught while it reads.
-TRIES = 200
+TRIES = 50
 COMMANDS = (
     "solve school/lists.csv school/quotas.csv",
     "decompose committee/shares.csv committee/quotas.csv",
@@ -89,7 +89,7 @@ def run(words, **how):
     """How a run ends with these words; without another place its standard output is kept."""
     how = {"stdin": subprocess.DEVNULL, "stdout": subprocess.PIPE, "stderr": subprocess.PIPE, **how}
     ran = subprocess.run([PROGRAM, *words], check=False, timeout=MOST, **how)
-    return End(ran.returncode, ran.stderr, ran.stdout or b"")
+    return End(ran.returncode, ran.stderr or b"", ran.stdout or b"")
 
 
 def begin(words, **how):

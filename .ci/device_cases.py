@@ -118,7 +118,7 @@ def into_file(words, size):
     def limit():
         resource.setrlimit(resource.RLIMIT_FSIZE, (size, size))
 
-    # Without these signals restored, Python's child is not ended by the one for too large a file.
+    # Python ignores the signal that a file is too large, and where signals aren't restored its child does too.
     with open("limited", "wb") as file:
         end = run(words, stdout=file, preexec_fn=limit, restore_signals=False)
     with open("limited", "rb") as file:

@@ -74,15 +74,21 @@ capped_ones i (w ∷ agents) =
     head true = each (but_last w.list) ∙ ap (λ n. replicate n 1) (before_last_length w.list)
     head false = refl
 
+-- one set more
+pub set_more : (sets : List SetValue) (n : ℕ) (s : SetValue) → 1 ≤ n → slice_get sets (n - 1) ≡ Some s → (items : List SetValue) → items ≡ take (n - 1) sets → items ++ s ∷ [] ≡ take (n + 1 - 1) sets
+set_more sets n s low here items h =
+    let next : n - 1 + 1 ≡ n + 1 - 1 = omega arith in
+    ap (λ xs. xs ++ s ∷ []) h
+    ∙ ap (λ x. take (n - 1) sets ++ x ∷ []) (sym (get_or_from_slice_get sets (n - 1) s s here))
+    ∙ sym (take_more sets (n - 1) s (slice_get_within sets (n - 1) s here)) ∙ ap (λ k. take k sets) next
+
 -- one set's ceiling more
 pub ceiling_more : (sets : List SetValue) (n : ℕ) (s : SetValue) → 1 ≤ n → slice_get sets (n - 1) ≡ Some s → (items : List ℕ) → items ≡ map (λ (q : SetValue). q.ceiling) (take (n - 1) sets)
     → items ++ s.ceiling ∷ [] ≡ map (λ (q : SetValue). q.ceiling) (take (n + 1 - 1) sets)
 ceiling_more sets n s low here items h =
-    let next : n - 1 + 1 ≡ n + 1 - 1 = omega arith in
     ap (λ xs. xs ++ s.ceiling ∷ []) h
     ∙ sym (map-append (λ (q : SetValue). q.ceiling) (take (n - 1) sets) (s ∷ []))
-    ∙ ap (λ x. map (λ (q : SetValue). q.ceiling) (take (n - 1) sets ++ x ∷ [])) (sym (get_or_from_slice_get sets (n - 1) s s here))
-    ∙ ap (map (λ (q : SetValue). q.ceiling)) (sym (take_more sets (n - 1) s (slice_get_within sets (n - 1) s here)) ∙ ap (λ k. take k sets) next)
+    ∙ ap (map (λ (q : SetValue). q.ceiling)) (set_more sets n s low here (take (n - 1) sets) refl)
 
 -- an agent's capped cells are among all
 pub caps_room : (p : ProblemValue) (i : ℕ) → IsProblem p → i < length p.agents

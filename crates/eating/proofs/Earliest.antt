@@ -1,11 +1,15 @@
--- The earliest moment, one limit after the other.
-use Rattle.std.proofs.Common.{◌≡◌, ◌≢◌, ℕ, ◌+◌, ◌*◌, ◌<◌, ◌≤◌, List, Option, Some, None, sym, subst, inl, inr, arith, mul-le-mul_left}
-use Rattle.std.specs.Prelude.{slice_index, MatchOption}
-use Rattle.std.proofs.lemmas.Bool.{cases_lt}
+-- The earliest moment is that of a limit whose key no other comes before.
+use Rattle.std.proofs.Common.{◌≡◌, ℕ, ◌+◌, ◌*◌, ◌<◌, ◌≤◌, List, Option, Some, None, length, ap, sym, ◌∙◌, subst, inl, inr, arith, mul-le-mul_left}
+use Rattle.std.specs.Prelude.{slice_index, slice_index_or, MatchOption}
+use Rattle.std.proofs.lemmas.Bool.{cases_eq}
+use Rattle.std.proofs.lemmas.Option.{none-some}
 use Rattle.frac128.specs.Fraction.{numerator, denominator}
 use Rattle.frac128.specs.declared.fractions.Fraction.{Fraction}
-use Rattle.eating.specs.Steps.{IsKey, IsNoLater, IsEarliest, IsNext, IsEarlier}
-use Rattle.eating.proofs.Keys.{through, key_below_one}
+use Rattle.eating.specs.declared.due.Due.{Due}
+use Rattle.eating.specs.Dues.{AreDueAt, IsDue}
+use Rattle.eating.specs.Orders.{IsNoLaterThan, through}
+use Rattle.eating.specs.Steps.{IsKey, IsNoLater, IsNext}
+use Rattle.eating.proofs.Keys.{key_below_one}
 
 key_small : (U u r v : ℕ) (m : Fraction) → IsKey U u r v m → numerator m < denominator m
 key_small U u r v m h = key_below_one (numerator m) (denominator m) (U * v) (u * v + r) h.value h.before_end m.positive
@@ -17,61 +21,46 @@ late U u r v m less h =
     let two : denominator m * (U * v) ≤ denominator m * (u * v + r) = mul-le-mul_left (denominator m) h in
     omega (arith, one, two)
 
-module _ (U u : ℕ) (e r v : List ℕ) (n : ℕ) where
-  last_or_before : (P : ℕ → Type 0) → ((j : ℕ) → j < n → P j) → P n → (j : ℕ) → j < n + 1 → P j
-  last_or_before P f p j l = elim (cases_lt j n) [
-    | inl less ↦ f j less
-    | inr more ↦ (let same : n ≡ j = omega arith in subst P same p)
-  ]
+-- an open limit whose key doesn't come before the moment isn't full before it
+no_later : (U u r v : ℕ) (m : Fraction) → numerator m < denominator m → (o : Option Fraction) → MatchOption o (U * v ≤ u * v + r) (IsKey U u r v) → IsNoLaterThan (Some m) o → IsNoLater U u r v m
+no_later U u r v m small None h first = late U u r v m small h
+no_later U u r v m small (Some y) h first =
+    through (numerator y) (denominator y) (numerator m) (denominator m) (U * v) (u * v + r) y.positive first (let same = h.value in omega (arith, same))
 
-  wider : (m : Fraction) → IsEarliest U u n e r v m → (slice_index e n ≡ U → IsNoLater U u (slice_index r n) (slice_index v n) m) → IsEarliest U u (n + 1) e r v m
-  wider m h last = record {
-    limit = h.limit;
-    known = (let l = h.known in omega arith);
-    is_open = h.is_open;
-    key = h.key;
-    least = last_or_before (λ j. slice_index e j ≡ U → IsNoLater U u (slice_index r j) (slice_index v j) m) h.least last;
+-- no key comes before this one, which is that of limit t
+module _ (U u : ℕ) (e r v : List ℕ) (t : ℕ) (known : t < length e) (due : ℕ → Option Fraction)
+    (each : (j : ℕ) → j < length e → IsDue U u (slice_index e j) (slice_index r j) (slice_index v j) (due j)) where
+  next_from : (o : Option Fraction) → o ≡ due t → ((j : ℕ) → j < length e → IsNoLaterThan o (due j)) → IsNext U u (length e) e r v o
+  next_from None is first = λ j l o. none j (due j) (first j l) ((each j l).if_open o)
+    where
+      none : (j : ℕ) (k : Option Fraction) → IsNoLaterThan None k → MatchOption k (U * slice_index v j ≤ u * slice_index v j + slice_index r j) (IsKey U u (slice_index r j) (slice_index v j))
+          → U * slice_index v j ≤ u * slice_index v j + slice_index r j
+      none j None p h = h
+      none j (Some y) p h = absurd p
+  next_from (Some m) is first = record {
+    limit = t;
+    known = known;
+    is_open = is_open;
+    key = key;
+    least = λ j l o. no_later U u (slice_index r j) (slice_index v j) m (key_small U u (slice_index r t) (slice_index v t) m key) (due j) ((each j l).if_open o) (first j l);
   }
+    where
+      is_open : slice_index e t ≡ U
+      is_open = elim (cases_eq (slice_index e t) U) [
+        | inl same ↦ same
+        | inr other ↦ absurd (none-some m (sym ((each t known).if_full other) ∙ sym is))
+      ]
 
-  -- a limit that is full changes nothing
-  pub next_full : (o : Option Fraction) → slice_index e n ≢ U → IsNext U u n e r v o → IsNext U u (n + 1) e r v o
-  next_full None full h = last_or_before (λ j. slice_index e j ≡ U → U * slice_index v j ≤ u * slice_index v j + slice_index r j) h (λ o. absurd (full o))
-  next_full (Some m) full h = wider m h (λ o. absurd (full o))
+      key : IsKey U u (slice_index r t) (slice_index v t) m
+      key = subst (λ o. MatchOption o (U * slice_index v t ≤ u * slice_index v t + slice_index r t) (IsKey U u (slice_index r t) (slice_index v t))) (sym is) ((each t known).if_open is_open)
 
-  -- an open limit may be the earliest
-  pub next_open : (o k result : Option Fraction) → slice_index e n ≡ U → IsNext U u n e r v o
-      → MatchOption k (U * slice_index v n ≤ u * slice_index v n + slice_index r n) (IsKey U u (slice_index r n) (slice_index v n)) → IsEarlier o k result → IsNext U u (n + 1) e r v result
-  next_open None None result is_open h key is =
-      subst (IsNext U u (n + 1) e r v) (sym is) (last_or_before (λ j. slice_index e j ≡ U → U * slice_index v j ≤ u * slice_index v j + slice_index r j) h (λ o. key))
-  next_open None (Some b) result is_open h key is =
-      let small = key_small U u (slice_index r n) (slice_index v n) b key in
-      subst (IsNext U u (n + 1) e r v) (sym is) (record {
-        limit = n;
-        known = omega arith;
-        is_open = is_open;
-        key = key;
-        least = last_or_before (λ j. slice_index e j ≡ U → IsNoLater U u (slice_index r j) (slice_index v j) b)
-            (λ j l o. late U u (slice_index r j) (slice_index v j) b small (h j l o)) (λ o. (let same = key.value in omega (arith, same)));
-      })
-  next_open (Some a) None result is_open h key is =
-      subst (IsNext U u (n + 1) e r v) (sym is)
-      (wider a h (λ o. late U u (slice_index r n) (slice_index v n) a (key_small U u (slice_index r h.limit) (slice_index v h.limit) a h.key) key))
-  next_open (Some a) (Some b) result is_open h key (inl is) =
-      subst (IsNext U u (n + 1) e r v) (sym is.0)
-      (wider a h (λ o. through (numerator b) (denominator b) (numerator a) (denominator a) (U * slice_index v n) (u * slice_index v n + slice_index r n) b.positive is.1
-      (let same = key.value in omega (arith, same))))
-  next_open (Some a) (Some b) result is_open h key (inr is) =
-      subst (IsNext U u (n + 1) e r v) (sym is.0) (record {
-        limit = n;
-        known = omega arith;
-        is_open = is_open;
-        key = key;
-        least = last_or_before (λ j. slice_index e j ≡ U → IsNoLater U u (slice_index r j) (slice_index v j) b)
-            (λ j l o. through (numerator a) (denominator a) (numerator b) (denominator b) (U * slice_index v j) (u * slice_index v j + slice_index r j) a.positive (let k = is.1 in omega arith) (h.least j l o))
-            (λ o. (let same = key.value in omega (arith, same)));
-      })
+-- the key at the top
+pub next_due : (U u : ℕ) (e r v : List ℕ) (dues : List Due) → AreDueAt U u e r v dues → (t : ℕ) (key : Due) → t < length dues → ((d : Due) → key ≡ slice_index_or dues t d)
+    → ((d : Due) (j : ℕ) → j < length dues → IsNoLaterThan (slice_index_or dues t d).moment (slice_index_or dues j d).moment) → IsNext U u (length e) e r v key.moment
+next_due U u e r v dues h t key known is first =
+    next_from U u e r v t (omega (arith, known, h.many)) (λ j. (slice_index_or dues j key).moment) (h.each key) key.moment (ap (λ (k : Due). k.moment) (is key))
+    (λ j l. subst (λ (k : Due). IsNoLaterThan k.moment (slice_index_or dues j key).moment) (sym (is key)) (first key j (omega (arith, l, h.many))))
 
--- a key of the same numbers by other names
-pub key_read : (U u r v r' v' : ℕ) → r ≡ r' → v ≡ v' → (k : Option Fraction) → MatchOption k (U * v ≤ u * v + r) (IsKey U u r v) → MatchOption k (U * v' ≤ u * v' + r') (IsKey U u r' v')
-key_read U u r v r' v' p q k h =
-    subst (λ n. MatchOption k (U * v' ≤ u * v' + n) (IsKey U u n v')) p (subst (λ n. MatchOption k (U * n ≤ u * n + r) (IsKey U u r n)) q h)
+-- where there is no limit, none is next
+pub next_none : (U u : ℕ) (e r v : List ℕ) → length e ≡ 0 → IsNext U u (length e) e r v None
+next_none U u e r v none = λ j l o. absurd (omega (arith, none, l))

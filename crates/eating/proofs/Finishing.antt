@@ -20,6 +20,7 @@ use Rattle.eating_laws.proofs.Full.{cells_at}
 use Rattle.definitions.proofs.Problems.{agent_of, list_lawful}
 use Rattle.eating_laws.proofs.Limits.{agent_count, demand_total}
 use Rattle.eating_laws.proofs.Assignment.{eating_assigns}
+use Rattle.eating.proofs.Counts.{limits_few}
 use Rattle.eating.specs.Caps.{caps_before}
 use Rattle.eating.specs.Plan.{LineValue, IsSmall, AreLinesOf}
 use Rattle.eating.specs.Serving.{AreListsWithin, IsServed, IsUncappedOffLists}
@@ -43,6 +44,7 @@ module _ (p : ProblemValue) (h : IsProblem p) where
   -- no ceiling and no sum of demands is large
   pub problem_small : IsSmall (market_of p)
   problem_small = record {
+    few = (let few = limits_few p h in omega (arith, few));
     ceilings = All-append (λ s. s.ceiling ≤ 1000) stated_limits (capped_limits 0 (market_of p).agents)
         (All-map (λ (s : Limit). s.ceiling ≤ 1000) (λ (s : SetValue). record { ceiling = s.ceiling; cells = s.cells }) (stated_sets p)
         (All-weaker IsQuotaSet (λ s. s.ceiling ≤ 1000) (λ s q. q.limit) (stated_sets p) (All-take IsQuotaSet p.stated p.family.sets h.family.lawful)))

@@ -2,20 +2,10 @@
 use Rattle.std.proofs.Common.{◌≡◌, ℕ, ◌+◌, ◌*◌, ◌<◌, ◌≤◌, ap, sym, ◌∙◌, subst, arith, mul_comm, mul-le-mul_left}
 use Rattle.std.specs.Prelude.{◌/◌}
 use Rattle.std.specs.Int.{◌∣◌}
-use Rattle.std.proofs.Math.Nat.{eq_of_mul-eq-mul_left, lt_of_mul-lt-mul_left, le_of_mul-le-mul_right, mul-div_cancel', mul-lt-mul_of_pos_left, dvd-mul_right, dvd-mul_left, mul-pos}
+use Rattle.std.proofs.Math.Nat.{eq_of_mul-eq-mul_left, lt_of_mul-lt-mul_left, mul-div_cancel', mul-lt-mul_of_pos_left, dvd-mul_right, dvd-mul_left, mul-pos}
 use Rattle.frac128.specs.Lcm.{IsLcm}
+use Rattle.eating.specs.Orders.{le_from_product}
 use Rattle.frac128.specs.Measure.{multiple_of_lowest, factor_positive}
-
-le_from_product : (c x y : ℕ) → 0 < c → c * x ≤ c * y → x ≤ y
-le_from_product c x y p h = le_of_mul-le-mul_right (omega (arith, h, mul_comm c x, mul_comm c y)) p
-
--- an order of fractions carries over to a product with the same factor
-pub through : (k l k' l' a b : ℕ) → 0 < l → k' * l ≤ k * l' → k * a ≤ b * l → k' * a ≤ b * l'
-through k l k' l' a b p h g =
-    le_from_product l (k' * a) (b * l') p
-    (let one : a * (k' * l) ≤ a * (k * l') = mul-le-mul_left a h in
-    let two : l' * (k * a) ≤ l' * (b * l) = mul-le-mul_left l' g in
-    omega arith)
 
 -- a key in the finer unit: the limit isn't passed before the moment
 pub key_order : (U u v r k l c w unit : ℕ) → 0 < U → c * U ≡ unit → w * l ≡ unit → k * (U * v) ≤ (u * v + r) * l → v * (k * w) ≤ v * (c * u) + c * r

@@ -21,3 +21,6 @@ pub mod Lines
 pub mod Finishing
 pub mod Starting
 pub mod Handing
+pub mod Kept
+pub mod Dues
+pub mod Moving

@@ -14,7 +14,7 @@ use Rattle.frac128.specs.Lcm.{IsBeyond}
 use Rattle.frac128.specs.Fraction.{numerator, denominator}
 use Rattle.frac128.specs.declared.fractions.Fraction.{Fraction}
 use Rattle.eating.specs.Steps.{IsReady, IsAdvanced, AreAdvanced, IsEarliest}
-use Rattle.eating.specs.Runs.{IsTooFineIn}
+use Rattle.eating.specs.Answers.{IsTooFineIn}
 use Rattle.eating.proofs.Going.{new_within, slow, moment_after}
 use Rattle.eating.proofs.Stepping.{step_too_fine}
 

@@ -26,7 +26,7 @@ limit_small market j h l =
     subst (λ (o : Option Limit). option_map_or (λ (s : Limit). s.ceiling) o 0 ≤ 1000) (sym (slice_get-get_or market.limits j d l)) (h.ceilings j d l)
 
 -- no speed is above 1,000
-speeds_small : (lines : List LineValue) (places : List ℕ) (limits j : ℕ) → AreLines limits lines → seat_speed lines places j ≤ 1000
+pub speeds_small : (lines : List LineValue) (places : List ℕ) (limits j : ℕ) → AreLines limits lines → seat_speed lines places j ≤ 1000
 speeds_small lines places limits j h =
     let k = length lines + length places in
     let bound = seat_bound lines places k j (λ i line e q. (h.each i line e).once q j) in
@@ -40,6 +40,7 @@ module _ (market : Market) (lines : List LineValue) (are : AreLinesOf market lin
     fine = h.fine;
     many_rests = h.many_rests;
     many_speeds = h.many_speeds;
+    few = (let few = small.few in omega (arith, few, h.ready.right.size));
     within = λ j. within j;
     rest_within = λ j l o. (let left = h.ready.left j l o in
         let few : limit_ceiling market j * s.unit ≤ 1000 * s.unit = mul-le-mul_right s.unit (limit_small market j small (omega (arith, l, h.ready.right.size))) in omega (arith, left, few));

@@ -1,8 +1,8 @@
 -- The agents' seats, and the speeds that they make.
 use Rattle.std.proofs.Common.{◌≡◌, ◌≢◌, ℕ, suc, zero, ◌+◌, ◌*◌, ◌<◌, ◌≤◌, List, [], ◌∷◌, Bool, true, false, cond, Some, length, get_or, set, take, refl, ap, sym, ◌∙◌, subst, inl, inr, arith, mul-le-mul_left}
-use Rattle.std.specs.Prelude.{count_by, sum_by, ◌==◌, slice_get, slice_index, ◌⊎◌, ◌^◌, min}
+use Rattle.std.specs.Prelude.{count_by, sum_by, ◌==◌, slice_get, slice_index, ◌⊎◌, min}
 use Rattle.std.proofs.Math.Nat.{mul-add}
-use Rattle.std.proofs.lemmas.Bool.{cases_order, eq-eqb, ne_eqb, cases_lt}
+use Rattle.std.proofs.lemmas.Bool.{cases_eq, cases_order, eq-eqb, ne_eqb, cases_lt}
 use Rattle.std.proofs.lemmas.List.{get_or-set_same, get_or-set_other, length-set, take-set}
 use Rattle.std.proofs.lemmas.Option.{same_Some}
 use Rattle.std.proofs.lemmas.List.Sums.{sum_by-cons, sum_by_more, sum_by_more_le}
@@ -39,15 +39,46 @@ added speeds old holders d i l inside h j =
     different (inl k) e = omega arith
     different (inr k) e = omega arith
 
--- the speed so far leaves room for one demand more
-pub room_for : (old now holders : List ℕ) (d i : ℕ) → i < length holders → ((j : ℕ) → get_or old j 0 + d * count_by (λ h. h == j) holders < 2 ^ 32)
-    → ((j : ℕ) → get_or now j 0 ≡ get_or old j 0 + d * count_by (λ h. h == j) (take i holders)) → get_or now (get_or holders i 0) 0 + d < 2 ^ 32
-room_for old now holders d i l room h =
+-- one holder less
+pub taken_off : (speeds old holders : List ℕ) (d i rest : ℕ) → i < length holders → get_or holders i 0 < length speeds → rest + d ≡ get_or speeds (get_or holders i 0) 0
+    → ((j : ℕ) → get_or speeds j 0 + d * count_by (λ h. h == j) (take i holders) ≡ get_or old j 0)
+    → (j : ℕ) → get_or (set speeds (get_or holders i 0) rest) j 0 + d * count_by (λ h. h == j) (take (i + 1) holders) ≡ get_or old j 0
+taken_off speeds old holders d i rest l inside left h j =
+    let x = get_or holders i 0 in
+    let more = sum_by_more (λ h. cond (h == j) 1 0) holders i 0 l in
+    elim (cases_eq x j) [
+      | inl same ↦
+          let bit = ap {B = ℕ} (λ b. cond b 1 0) (eq-eqb x j same) in
+          let count : count_by (λ h. h == j) (take (i + 1) holders) ≡ count_by (λ h. h == j) (take i holders) + 1 = omega (arith, more, bit) in
+          let here : get_or (set speeds x rest) j 0 ≡ rest = ap (λ k. get_or (set speeds x rest) k 0) (sym same) ∙ get_or-set_same speeds x rest 0 inside in
+          let was : get_or speeds x 0 ≡ get_or speeds j 0 = ap (λ k. get_or speeds k 0) same in
+          omega (arith, here, left, was, h j, ap (λ n. d * n) count, mul-add d (count_by (λ h. h == j) (take i holders)) 1)
+      | inr other ↦
+          let bit = ap {B = ℕ} (λ b. cond b 1 0) (ne_eqb x j other) in
+          let count : count_by (λ h. h == j) (take (i + 1) holders) ≡ count_by (λ h. h == j) (take i holders) = omega (arith, more, bit) in
+          ap (λ n. n + d * count_by (λ h. h == j) (take (i + 1) holders)) (get_or-set_other speeds x j rest 0 (λ e. other (sym e)))
+          ∙ ap (λ n. get_or speeds j 0 + d * n) count ∙ h j
+    ]
+
+-- one demand more is within that of all holders
+one_more : (holders : List ℕ) (d i : ℕ) → i < length holders
+    → d * count_by (λ h. h == get_or holders i 0) (take i holders) + d ≤ d * count_by (λ h. h == get_or holders i 0) holders
+one_more holders d i l =
     let x = get_or holders i 0 in
     let bit = ap {B = ℕ} (λ b. cond b 1 0) (eq-eqb x x refl) in
     let more = sum_by_more_le (λ h. cond (h == x) 1 0) holders i 0 l in
     let count : count_by (λ h. h == x) (take i holders) + 1 ≤ count_by (λ h. h == x) holders = omega (arith, more, bit) in
-    omega (arith, h x, room x, mul-le-mul_left d count, mul-add d (count_by (λ h. h == x) (take i holders)) 1)
+    omega (arith, mul-le-mul_left d count, mul-add d (count_by (λ h. h == x) (take i holders)) 1)
+
+-- the speed so far leaves room for one demand more
+pub room_for : (old now holders : List ℕ) (d i : ℕ) → i < length holders → ((j : ℕ) → get_or old j 0 + d * count_by (λ h. h == j) holders ≤ 1000)
+    → ((j : ℕ) → get_or now j 0 ≡ get_or old j 0 + d * count_by (λ h. h == j) (take i holders)) → get_or now (get_or holders i 0) 0 + d ≤ 1000
+room_for old now holders d i l room h = omega (arith, h (get_or holders i 0), room (get_or holders i 0), one_more holders d i l)
+
+-- what is left of the speed has one demand more to take off
+pub left_for : (old now holders : List ℕ) (d i : ℕ) → i < length holders → ((j : ℕ) → d * count_by (λ h. h == j) holders ≤ get_or old j 0)
+    → ((j : ℕ) → get_or now j 0 + d * count_by (λ h. h == j) (take i holders) ≡ get_or old j 0) → d ≤ get_or now (get_or holders i 0) 0
+left_for old now holders d i l eaten h = omega (arith, h (get_or holders i 0), eaten (get_or holders i 0), one_more holders d i l)
 
 -- one agent more
 pub seat_more : (lines : List LineValue) (places : List ℕ) (k j : ℕ) (line : LineValue) → slice_get lines k ≡ Some line → k < length places
@@ -185,3 +216,29 @@ seat_done U e lines places k line place is l seat done i x less at = elim (cases
       let one : line ≡ x = same_Some line x (sym here ∙ at) in
       subst (λ y. IsSeat U e y (slice_index (set places k place) i)) one (subst (λ n. IsSeat U e line (slice_index (set places k place) n)) same (subst (IsSeat U e line) (sym (get_or-set_same places k place 0 l)) seat))
 ]
+
+-- an agent that moves takes its demand along
+pub seat_moved : (lines : List LineValue) (places : List ℕ) (k j : ℕ) (line : LineValue) (place : ℕ) → slice_get lines k ≡ Some line → k < length places
+    → seat_speed lines (set places k place) j + line.demand * count_by (λ h. h == j) (holders_at line (get_or places k 0))
+    ≡ seat_speed lines places j + line.demand * count_by (λ h. h == j) (holders_at line place)
+unfolding seat_speed
+seat_moved [] places k j line place is l = cc is
+seat_moved (x ∷ lines) [] k j line place is l = absurd (omega arith)
+seat_moved (x ∷ lines) (p ∷ places) zero j line place is l =
+    let same : x ≡ line = cc is in
+    subst
+    (λ (y : LineValue). x.demand * count_by (λ h. h == j) (holders_at x place) + seat_speed lines places j + y.demand * count_by (λ h. h == j) (holders_at y p)
+    ≡ x.demand * count_by (λ h. h == j) (holders_at x p) + seat_speed lines places j + y.demand * count_by (λ h. h == j) (holders_at y place)) same (omega arith)
+seat_moved (x ∷ lines) (p ∷ places) (suc k) j line place is l =
+    (let rest = seat_moved lines places k j line place is (omega arith) in omega (arith, rest))
+
+-- its demand is a part of the speed where it eats
+pub seat_part : (lines : List LineValue) (places : List ℕ) (k j : ℕ) (line : LineValue) → slice_get lines k ≡ Some line → k < length places
+    → line.demand * count_by (λ h. h == j) (holders_at line (get_or places k 0)) ≤ seat_speed lines places j
+unfolding seat_speed
+seat_part [] places k j line is l = cc is
+seat_part (x ∷ lines) [] k j line is l = absurd (omega arith)
+seat_part (x ∷ lines) (p ∷ places) zero j line is l =
+    let same : x ≡ line = cc is in
+    subst (λ (y : LineValue). y.demand * count_by (λ h. h == j) (holders_at y p) ≤ x.demand * count_by (λ h. h == j) (holders_at x p) + seat_speed lines places j) same (omega arith)
+seat_part (x ∷ lines) (p ∷ places) (suc k) j line is l = (let rest = seat_part lines places k j line is (omega arith) in omega (arith, rest))

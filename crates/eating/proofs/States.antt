@@ -12,10 +12,13 @@ use Rattle.frac128.specs.Fraction.{numerator, denominator}
 use Rattle.frac128.specs.declared.fractions.Fraction.{Fraction}
 use Rattle.eating.specs.declared.progress.Progress.{Progress}
 use Rattle.eating.specs.Plan.{LineValue, AreLinesOf, IsSmall}
-use Rattle.eating.specs.Seats.{AreSoFar, AreSeats}
+use Rattle.eating.specs.Seats.{AreSoFar, AreSeats, seat_speed}
 use Rattle.eating.specs.Steps.{AreAdvanced, IsEarliest, IsWithin}
-use Rattle.eating.specs.Runs.{IsAt, IsRunOf, IsSeated, IsStepTo, IsTooFineIn}
+use Rattle.eating.specs.Runs.{AreDue, IsAt, IsHeld, IsMoving, IsRunOf, IsSeated, IsSteady, IsStepTo}
+use Rattle.eating.specs.Answers.{IsTooFineIn}
 use Rattle.eating.proofs.Stepping.{step_right, step_left, step_lowest, step_full}
+use Rattle.eating.proofs.Dues.{none_due}
+use Rattle.eating.proofs.Moving.{steady_held}
 use Rattle.eating.proofs.Running.{limit_small, at_within, seated, so_far_after, seats_so_far, first_so_far, open_falls}
 use Rattle.eating.proofs.Rounds.{first_right, first_rests, first_lowest, beyond_too_fine}
 
@@ -43,6 +46,39 @@ moved market lines are small mid new s D n unit at right left lowest fine many =
         (subst (λ x. (j : ℕ) → j < length mid.moments.items → moment_at mid.moments.items j ≡ D → slice_index x j + eaten_by market D mid.moments.items (limit_cells market j) n ≡ limit_ceiling market j * D) (sym u) left)))
 
 module _ (market : Market) (lines : List LineValue) where
+  -- in the beginning nobody eats
+  pub start_zero : (s : Progress) → IsRunOf market lines s → (j : ℕ) → slice_index s.speeds.items j ≡ 0
+  start_zero s h j = elim (cases_lt j (length market.limits)) [
+    | inl inside ↦ ap (λ xs. get_or xs j 0) h.start.speeds ∙ get_or-replicate (length market.limits) j 0 0 inside
+    | inr past ↦ get_or_past s.speeds.items j 0 (omega (arith, past, ap length h.start.speeds, length-replicate {A = ℕ} (length market.limits) 0))
+  ]
+
+  pub start_size : (s : Progress) → IsRunOf market lines s → length s.moments.items ≡ length market.limits
+  start_size s h = ap length h.start.moments ∙ length-replicate (length market.limits) 1
+
+  pub start_due : (s : Progress) → IsRunOf market lines s → AreDue s
+  start_due s h = none_due s.unit s.at (length market.limits) s.moments.items s.rests.items s.speeds.items s.dues (start_size s h) h.start.dues (start_zero s h)
+
+  -- each agent is at the first place
+  pub start_place : (s : Progress) → IsRunOf market lines s → (i : ℕ) → slice_index s.places.items i ≡ 0
+  start_place s h i = elim (cases_lt i (length lines)) [
+    | inl inside ↦ ap (λ xs. get_or xs i 0) h.start.places ∙ get_or-replicate (length lines) i 0 0 inside
+    | inr past ↦ get_or_past s.places.items i 0 (omega (arith, past, ap length h.start.places, length-replicate {A = ℕ} (length lines) 0))
+  ]
+
+  pub start_so_far : (s mid : Progress) → IsRunOf market lines s → mid.places.items ≡ s.places.items → AreSoFar mid.unit mid.moments.items lines mid.places.items
+  start_so_far s mid h same = first_so_far mid.unit (length market.limits) (length lines) mid.moments.items lines mid.places.items h.lines_of.limits (omega arith) (same ∙ h.start.places)
+
+  pub start_moving : (s mid sat : Progress) → IsRunOf market lines s → mid.places.items ≡ s.places.items → IsSteady mid → IsHeld mid sat → sat.places.items ≡ mid.places.items
+      → ((j : ℕ) → slice_index sat.speeds.items j ≡ seat_speed lines mid.places.items j) → AreDue sat → IsMoving lines 0 sat
+  start_moving s mid sat h same steady held places speeds dues = record {
+    steady = steady_held mid sat held steady;
+    dues = dues;
+    so_far = start_so_far s sat h (places ∙ same);
+    done = λ k line less. absurd (omega arith);
+    speeds = λ j. speeds j ∙ ap (λ xs. seat_speed lines xs j) (sym places);
+  }
+
   -- the first step needs little
   pub start_within : (s : Progress) → IsRunOf market lines s → IsWithin s.unit s.at s.moments.items s.rests.items s.speeds.items
   start_within s h = record {
@@ -50,10 +86,11 @@ module _ (market : Market) (lines : List LineValue) where
     fine = omega (arith, h.start.unit);
     many_rests = h.start.many_rests ∙ sym many;
     many_speeds = ap length h.start.speeds ∙ length-replicate (length market.limits) 0 ∙ sym many;
+    few = (let few = h.small.few in omega (arith, few, many));
     within = λ j. (let one = unit_at j in omega (arith, one, h.start.unit));
     rest_within = λ j l o. (let inside : j < length market.limits = omega (arith, l, many) in
         let few = limit_small market j h.small inside in omega (arith, few, h.start.rests j inside, h.start.unit));
-    speed_within = λ j. (let none = zero_at j in omega (arith, none));
+    speed_within = λ j. (let none = start_zero s h j in omega (arith, none));
   }
     where
       many : length s.moments.items ≡ length market.limits
@@ -64,15 +101,6 @@ module _ (market : Market) (lines : List LineValue) where
         | inl inside ↦ (let is = ap (λ xs. get_or xs j 0) h.start.moments ∙ get_or-replicate (length market.limits) j 1 0 inside in omega (arith, is))
         | inr past ↦ (let is = get_or_past s.moments.items j 0 (omega (arith, past, many)) in omega (arith, is))
       ]
-
-      zero_at : (j : ℕ) → slice_index s.speeds.items j ≡ 0
-      zero_at j = elim (cases_lt j (length market.limits)) [
-        | inl inside ↦ ap (λ xs. get_or xs j 0) h.start.speeds ∙ get_or-replicate (length market.limits) j 0 0 inside
-        | inr past ↦ get_or_past s.speeds.items j 0 (omega (arith, past, ap length h.start.speeds, length-replicate {A = ℕ} (length market.limits) 0))
-      ]
-
-  pub start_so_far : (s mid : Progress) → IsRunOf market lines s → mid.places.items ≡ s.places.items → AreSoFar mid.unit mid.moments.items lines mid.places.items
-  start_so_far s mid h same = first_so_far mid.unit (length market.limits) (length lines) mid.moments.items lines mid.places.items h.lines_of.limits (omega arith) (same ∙ h.start.places)
 
   -- the state at moment 0
   pub start_at : (s mid new : Progress) → IsRunOf market lines s → mid.unit ≡ 1 * s.unit → mid.at ≡ 1 * s.at + 0
@@ -123,6 +151,15 @@ module _ (market : Market) (lines : List LineValue) where
         (subst (λ places. AreSoFar (step.factor * old.unit) mid.moments.items lines places) (sym step.places)
         (so_far_after old.unit step.factor step.step (step.factor * old.at + step.step) (length market.limits) old.moments.items old.rests.items old.speeds.items mid.moments.items mid.rests.items lines old.places.items step.positive h.ready.right.size are.limits step.limits
         (seats_so_far old.unit old.moments.items lines old.places.items h.seats)))
+
+    pub next_moving : AreLinesOf market lines → IsSteady mid → AreDue mid → IsMoving lines 0 mid
+    next_moving are steady dues = record {
+      steady = steady;
+      dues = dues;
+      so_far = next_so_far are;
+      done = λ k line less. absurd (omega arith);
+      speeds = λ j. ap (λ xs. get_or xs j 0) step.speeds ∙ h.speeds j ∙ ap (λ xs. seat_speed lines xs j) (sym step.places);
+    }
 
     -- fewer limits are open then
     pub next_fewer : (new : Progress) → IsSeated lines mid new → count_by (λ x. x == new.unit) new.moments.items < count_by (λ x. x == old.unit) old.moments.items

@@ -1,7 +1,11 @@
 pub mod Answers
 pub mod Caps
+pub mod Dues
 pub mod Eaten
+pub mod Eaters
 pub mod Holders
+pub mod Made
+pub mod Orders
 pub mod Plan
 pub mod Runs
 pub mod Seats

@@ -1,5 +1,5 @@
 -- What eating goes over: each agent's list with the limits that hold its cells.
-use Rattle.std.specs.Prelude.{◌≡◌, ℕ, ◌-◌, ◌<◌, ◌≤◌, ◌==◌, min, List, [], ◌∷◌, length, All, count_by, sum_by, slice_get, slice_index, unwrap_or, Some, nat_le, if◌then◌else◌}
+use Rattle.std.specs.Prelude.{◌≡◌, ℕ, ◌-◌, ◌<◌, ◌≤◌, ◌^◌, ◌==◌, min, List, [], ◌∷◌, length, All, count_by, sum_by, slice_get, slice_index, unwrap_or, Some, nat_le, if◌then◌else◌}
 use Rattle.definitions.specs.Values.{Agent, Market, ProblemValue, demand_at, list_at}
 use Rattle.definitions.specs.Eating.{moment_at, demand_sum}
 use Rattle.eating_laws.proofs.Holders.{IsHolders}
@@ -49,7 +49,8 @@ unfoldable pub least_from : ℕ → List ℕ → ℕ → List ℕ → ℕ
 least_from D e first [] = D
 least_from D e first (h ∷ holders) = if nat_le first h then min (moment_at e h) (least_from D e first holders) else least_from D e first holders
 
--- a market in which no ceiling and no sum of demands is above 1,000
+-- a market in which no ceiling and no sum of demands is above 1,000, with less than 2^32 limits
 pub record IsSmall (market : Market) : Type 0 where
+  pub few : length market.limits < 2 ^ 32
   pub ceilings : All (λ s. s.ceiling ≤ 1000) market.limits
   pub demands : demand_sum market ≤ 1000

@@ -1,13 +1,14 @@
 -- The state of eating at its start and from moment to moment.
-use Rattle.std.specs.Prelude.{◌≡◌, ℕ, ◌+◌, ◌*◌, ◌<◌, ◌≤◌, ◌^◌, List, length, slice_index, replicate, Option}
+use Rattle.std.specs.Prelude.{◌≡◌, ℕ, ◌+◌, ◌*◌, ◌<◌, ◌≤◌, ◌^◌, List, length, slice_get, slice_index, replicate, Option, Some, None}
 use Rattle.definitions.specs.Values.{Market}
-use Rattle.definitions.specs.Eating.{limit_ceiling, IsFirstTooFine, IsLowestTerms}
+use Rattle.definitions.specs.Eating.{limit_ceiling, IsLowestTerms}
 use Rattle.frac128.specs.Fraction.{numerator, denominator}
 use Rattle.frac128.specs.declared.fractions.Fraction.{Fraction}
 use Rattle.frac128.specs.Lcm.{IsLcm}
 use Rattle.eating.specs.declared.progress.Progress.{Progress}
 use Rattle.eating.specs.Plan.{LineValue, AreLinesOf, IsSmall}
-use Rattle.eating.specs.Seats.{AreSeats, seat_speed}
+use Rattle.eating.specs.Dues.{AreDueAt, IsSteadyAt}
+use Rattle.eating.specs.Seats.{AreSeats, AreSoFar, IsSeat, seat_speed}
 use Rattle.eating.specs.Steps.{AreAdvanced, IsEarliest, IsNext, IsReady, IsWithin}
 
 -- nothing is eaten: limits with these ceilings are open, and so many agents are each at the first place
@@ -18,6 +19,7 @@ pub record IsStartOver (ceilings : List ℕ) (agents : ℕ) (s : Progress) : Typ
   pub rests : s.rests.items ≡ ceilings
   pub speeds : s.speeds.items ≡ replicate (length ceilings) 0
   pub places : s.places.items ≡ replicate agents 0
+  pub dues : s.dues ≡ replicate (length ceilings) (record { moment = None })
 
 -- nothing is eaten: all limits are open, with their ceilings left, and each agent is at its first place
 pub record IsStart (market : Market) (agents : ℕ) (s : Progress) : Type 0 where
@@ -28,6 +30,7 @@ pub record IsStart (market : Market) (agents : ℕ) (s : Progress) : Type 0 wher
   pub rests : (j : ℕ) → j < length market.limits → slice_index s.rests.items j ≡ limit_ceiling market j
   pub speeds : s.speeds.items ≡ replicate (length market.limits) 0
   pub places : s.places.items ≡ replicate agents 0
+  pub dues : s.dues ≡ replicate (length market.limits) (record { moment = None })
 
 -- eating in a market, along the lines of its agents
 pub record IsRunOf (market : Market) (lines : List LineValue) (s : Progress) : Type 0 where
@@ -95,9 +98,26 @@ pub record IsAt (market : Market) (lines : List LineValue) (s : Progress) : Type
   pub seats : AreSeats s.unit s.moments.items lines s.places.items
   pub speeds : (j : ℕ) → slice_index s.speeds.items j ≡ seat_speed lines s.places.items j
 
--- D is the denominator of the market's first table that is too fine
-pub record IsTooFineIn (market : Market) (D : ℕ) : Type 0 where
-  pub moment : ℕ
-  pub table : List ℕ
-  pub first : IsFirstTooFine market D moment table
-  pub below : D < 2 ^ 126
+-- each limit's key is the moment at which it is due
+abbrev pub AreDue : Progress → Type 0
+AreDue s = AreDueAt s.unit s.at s.moments.items s.rests.items s.speeds.items s.dues
+
+-- what no speed changes lies within its bounds
+abbrev pub IsSteady : Progress → Type 0
+IsSteady s = IsSteadyAt s.unit s.at s.moments.items s.rests.items s.speeds.items
+
+-- the same moment, with the same limits full and the same rests
+pub record IsHeld (old new : Progress) : Type 0 where
+  pub unit : new.unit ≡ old.unit
+  pub at : new.at ≡ old.at
+  pub moments : new.moments.items ≡ old.moments.items
+  pub rests : new.rests.items ≡ old.rests.items
+  pub many : length new.speeds.items ≡ length old.speeds.items
+
+-- while the agents move: those before agent i are in their seats, and the speeds are those of all agents where they are
+pub record IsMoving (lines : List LineValue) (i : ℕ) (s : Progress) : Type 0 where
+  pub steady : IsSteady s
+  pub dues : AreDue s
+  pub so_far : AreSoFar s.unit s.moments.items lines s.places.items
+  pub done : (k : ℕ) (line : LineValue) → k < i → slice_get lines k ≡ Some line → IsSeat s.unit s.moments.items line (slice_index s.places.items k)
+  pub speeds : (j : ℕ) → slice_index s.speeds.items j ≡ seat_speed lines s.places.items j

@@ -1,13 +1,11 @@
 -- What is written into the rows of matrices in the end.
-use Rattle.std.specs.Prelude.{◌≡◌, ℕ, ◌+◌, ◌*◌, ◌<◌, List, length, slice_get, slice_index, Some, nat_eq, if◌then◌else◌, All, drop, false}
+use Rattle.std.specs.Prelude.{◌≡◌, ℕ, ◌+◌, ◌<◌, List, length, slice_get, slice_index, Some, nat_eq, if◌then◌else◌, All, drop, false}
 use Rattle.std.specs.List.{IsDistinct}
 use Rattle.std.specs.Set.{is_member}
 use Rattle.definitions.specs.Sets.{cell_of, holds}
-use Rattle.definitions.specs.Values.{Agent, Market, ProblemValue, column_count, market_of}
+use Rattle.definitions.specs.Values.{Agent, Market}
 use Rattle.definitions.specs.Eating.{full_at}
-use Rattle.eating.specs.declared.eater.Eater.{Eater}
 use Rattle.eating.specs.Plan.{LineValue, IsLineOf, AreLinesOf}
-use Rattle.eating.specs.Runs.{IsStart}
 
 -- the line of agent i of a market, whose list has no column twice, and a moment for each limit
 pub record IsServable (market : Market) (i : ℕ) (w : Agent) (line : LineValue) (moments : List ℕ) : Type 0 where
@@ -39,13 +37,3 @@ IsUncappedOffLists market stated = (i a : ℕ) (w : Agent) → slice_get market.
 -- the moment at which agent i can't eat of column a by the limits from number `stated` on, or D where none of them holds the cell
 abbrev pub cap_in : Market → ℕ → List ℕ → ℕ → ℕ → ℕ → ℕ
 cap_in market D e stated i a = full_at D (drop stated market.limits) (drop stated e) i a
-
--- what a problem's eating begins with
-pub record IsEaterOf (p : ProblemValue) (s : Eater) : Type 0 where
-  pub stated : s.stated ≡ p.stated
-  pub columns : s.columns ≡ column_count p
-  pub lines : AreLinesOf (market_of p) s.lines.items
-  pub start : IsStart (market_of p) (length s.lines.items) s.progress
-  pub units : length s.units.items ≡ length p.agents * column_count p
-  pub zero : (n : ℕ) → slice_index s.units.items n ≡ 0
-  pub caps : length s.caps.items ≡ length p.agents * column_count p

@@ -1,5 +1,5 @@
 -- The steps of eating from one moment at which limits are full to the next.
-use Rattle.std.specs.Prelude.{◌≡◌, ◌≢◌, ℕ, ◌+◌, ◌*◌, ◌<◌, ◌≤◌, ◌^◌, List, length, slice_index, ◌⊎◌, Option, Some, None, MatchOption}
+use Rattle.std.specs.Prelude.{◌≡◌, ◌≢◌, ℕ, ◌+◌, ◌*◌, ◌<◌, ◌≤◌, ◌^◌, List, length, slice_index, Option, MatchOption}
 use Rattle.definitions.specs.Values.{Market}
 use Rattle.definitions.specs.Eating.{eaten_by, moment_at, limit_cells, limit_ceiling}
 use Rattle.eating_laws.proofs.Right.{IsRightBelow}
@@ -55,20 +55,13 @@ abbrev pub IsNext : ℕ → ℕ → ℕ → List ℕ → List ℕ → List ℕ �
 IsNext unit at n moments rests speeds next =
     MatchOption next (IsNoneNext unit at n moments rests speeds) (IsEarliest unit at n moments rests speeds)
 
--- the earlier of two moments, where there are any
-abbrev pub IsEarlier : Option Fraction → Option Fraction → Option Fraction → Type 0
-IsEarlier None second result = result ≡ second
-IsEarlier (Some a) None result = result ≡ Some a
-IsEarlier (Some a) (Some b) result =
-    ((result ≡ Some a) × (numerator a * denominator b ≤ numerator b * denominator a))
-    ⊎ ((result ≡ Some b) × (numerator b * denominator a < numerator a * denominator b))
-
 -- a list for each limit, a moment before the end over a unit that isn't too fine, and no number that is too large
 pub record IsWithin (unit at : ℕ) (moments rests speeds : List ℕ) : Type 0 where
   pub before_end : at < unit
   pub fine : unit ≤ 2 ^ 116
   pub many_rests : length rests ≡ length moments
   pub many_speeds : length speeds ≡ length moments
+  pub few : length moments < 2 ^ 32
   pub within : (j : ℕ) → slice_index moments j ≤ unit
   pub rest_within : (j : ℕ) → j < length moments → slice_index moments j ≡ unit → slice_index rests j ≤ 1000 * unit
   pub speed_within : (j : ℕ) → slice_index speeds j ≤ 1000

@@ -5,9 +5,8 @@ ghost use Rattle.definitions.specs.Trees.{AreTreesOf};
 ghost use Rattle.eating.specs.Answers.{IsEatFault, IsEaten, NeedsManyMoments};
 
 use crate::eaten::Eaten;
-use crate::eater::Eater;
+use crate::eater::{Eater, TooFineTable};
 use bihierarchy::Trees;
-use frac128::Beyond;
 use quota_sets::Problem;
 use std::alloc::{AllocError, Global};
 use thiserror::Error;
@@ -38,15 +37,15 @@ impl From<AllocError> for EatFault {
     }
 }
 
-impl From<Beyond> for EatFault {
+impl From<TooFineTable> for EatFault {
     ghost use Rattle.std.specs.Prelude.{◌≡◌};
     ghost use Rattle.eating.specs.declared.answer.EatFault.TheVariants.{TooFine};
 
-    ghost from_gives = { λ beyond e. e ≡ TooFine beyond.lcm };
+    ghost from_gives = { λ fault e. e ≡ TooFine fault.denominator };
 
-    fn from(beyond: Beyond) -> EatFault {
+    fn from(fault: TooFineTable) -> EatFault {
         EatFault::TooFine {
-            denominator: beyond.lcm,
+            denominator: fault.denominator,
         }
     }
 }

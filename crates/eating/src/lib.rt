@@ -23,6 +23,7 @@
 #![tactic(auto)]
 
 mod answer;
+mod due;
 mod eaten;
 mod eater;
 mod plan;
@@ -31,3 +32,4 @@ mod serving;
 
 pub use answer::{EatFault, eat};
 pub use eaten::Eaten;
+pub use eater::{Eater, TooFineTable};

@@ -9,7 +9,7 @@ ghost use Rattle.eating.specs.Holders.{chain_at, holders_in};
 ghost use Rattle.eating.specs.Plan.{AreLinesOf, IsLine, IsLineOf, agent_at, holders_at};
 
 use bihierarchy::Trees;
-use quota_sets::{Cell, Problem};
+use quota_sets::{Cell, Problem, QuotaSet};
 use std::alloc::{AllocError, Global};
 use std::marker::Model;
 
@@ -182,6 +182,25 @@ fn capped_total(problem: &Problem) -> usize
         total += capped_cells(problem, agent) as usize;
     }
     total
+}
+
+/// A copy of a set.
+fn copy_of(alloc: Global, set: &QuotaSet) -> Result<QuotaSet, AllocError>
+    ensures { IfOk result (λ copy. copy ≡ set.now) }
+{
+    let cells = set.cells().to_vec(alloc)?;
+    Ok(QuotaSet::new(set.side(), set.floor(), set.ceiling(), cells))
+}
+
+/// Copies of the stated sets, by number.
+pub(crate) fn stated_copies(alloc: Global, problem: &Problem) -> Result<Vec<QuotaSet>, AllocError>
+    ensures { IfOk result (λ sets. sets.items ≡ stated_sets problem.now) }
+{
+    let mut sets = Vec::new(alloc);
+    for set in 1..problem.stated() + 1 {
+        sets.push(copy_of(alloc, problem.family().get(set).unwrap())?)?;
+    }
+    Ok(sets)
 }
 
 /// The ceilings of the stated sets, by number.

@@ -1,19 +1,22 @@
 // How far the eating has come, and its steps from one moment at which limits are full to the next. Problems, trees and
 // names of sets are unknown here: there are lines, and limits by number.
 
-ghost use Rattle.std.specs.Prelude.{◌≡◌, ℕ, ◌+◌, ◌*◌, ◌<◌, ◌≤◌, ◌^◌, ◌==◌, length, slice_index, count_by, All, replicate, MatchOption, IfOk, IfErr, OnOk};
+ghost use Rattle.std.specs.Prelude.{◌≡◌, ℕ, ◌+◌, ◌*◌, ◌<◌, ◌≤◌, ◌^◌, ◌==◌, length, slice_index, slice_set, count_by, All, IfOk, IfErr, OnOk};
 ghost use Rattle.definitions.specs.Eating.{IsEatingTable, IsLowestTerms};
 ghost use Rattle.definitions.specs.Values.{Market};
 ghost use Rattle.eating_laws.proofs.Holders.{least_of};
 ghost use Rattle.frac128.specs.Fraction.{denominator};
 ghost use Rattle.frac128.specs.Lcm.{IsBeyond};
+ghost use Rattle.eating.specs.Answers.{IsTooFineIn};
 ghost use Rattle.eating.specs.Plan.{AreLines, IsLine};
-ghost use Rattle.eating.specs.Seats.{AreSeats, AreSoFar, IsSeat, IsSoFar, seat_speed};
-ghost use Rattle.eating.specs.Steps.{IsAdvanced, IsEarlier, IsKey};
-ghost use Rattle.eating.specs.Runs.{AreLimitsAdvanced, CanGoOn, IsEarliestMoment, IsNextMoment, IsRun, IsRunOf, IsSeated, IsStartOver, IsStepTo, IsTooFineIn, LeavesEnough};
+ghost use Rattle.eating.specs.Seats.{IsSeat, IsSoFar, seat_speed};
+ghost use Rattle.eating.specs.Steps.{IsAdvanced};
+ghost use Rattle.eating.specs.Runs.{AreDue, AreLimitsAdvanced, CanGoOn, IsEarliestMoment, IsHeld, IsMoving, IsNextMoment, IsRun, IsRunOf, IsSeated, IsStartOver, IsSteady, IsStepTo, LeavesEnough};
 
+use crate::due::Due;
 use crate::plan::Line;
 use frac128::{Beyond, Fraction, lcm_within};
+use key_queue::Queue;
 use std::alloc::{AllocError, Global};
 
 /// The greatest denominator that isn't too fine.
@@ -33,6 +36,8 @@ pub(crate) struct Progress {
     pub speeds: Vec<u32>,
     /// By agent: the place of its list that it eats.
     pub places: Vec<usize>,
+    /// By limit: when it is full, at its rest and its speed.
+    pub dues: Queue<Due>,
 }
 
 /// A step from one moment to the next: `step` over the old unit times `factor`, up to `at`.
@@ -91,72 +96,10 @@ fn first_open(line: &Line, start: usize, moments: &[u128], unit: u128) -> usize
     place
 }
 
-/// Adds a demand to the speed of each holder.
-fn add_speed(speeds: &mut [u32], holders: &[u32], demand: u32)
-    requires inside { All (λ h. h < length speeds.old) holders.now }
-    requires room { (j : ℕ)
-        → slice_index speeds.old j + demand * count_by (λ h. h == j) holders.now < 2 ^ 32 }
-    ensures { (j : ℕ) → slice_index speeds.new j
-        ≡ slice_index speeds.old j + demand * count_by (λ h. h == j) holders.now }
-{
-    for limit in holders {
-        speeds[*limit as usize] += demand;
-    }
-}
-
-/// Moves each agent to its first open place, and adds the speeds up from 0.
-fn seat_agents(
-    lines: &[Line],
-    moments: &[u128],
-    unit: u128,
-    places: &mut [usize],
-    speeds: &mut [u32],
-)
-    requires lines { AreLines (length moments.now) lines.now }
-    requires so_far { AreSoFar unit moments.now lines.now places.old }
-    requires many { length speeds.old ≡ length moments.now }
-    requires zero { (j : ℕ) → slice_index speeds.old j ≡ 0 }
-    ensures seats { AreSeats unit moments.now lines.now places.new }
-    ensures speeds { (j : ℕ) → slice_index speeds.new j ≡ seat_speed lines.now places.new j }
-{
-    for agent in 0..lines.len() {
-        let line = &lines[agent];
-        let place = first_open(line, places[agent], moments, unit);
-        places[agent] = place;
-        add_speed(speeds, line.holders(place), line.demand());
-    }
-}
-
-/// The moment at which a limit is full if it goes on being eaten so fast, where that is before the end.
-fn key_of(rest: u128, speed: u128, unit: u128, at: u128) -> Option<Fraction>
-    requires before_end { at < unit }
-    requires fine { unit ≤ 2 ^ 116 }
-    requires speed { speed ≤ 1000 }
-    requires rest { rest ≤ 1000 * unit }
-    ensures { MatchOption result (unit * speed ≤ at * speed + rest) (IsKey unit at rest speed) }
-{
-    let amount = at * speed + rest;
-    let end = unit * speed;
-    if amount < end {
-        Some(Fraction::new(amount, end))
-    } else {
-        None
-    }
-}
-
-/// The earlier of two moments, where there are any.
-fn earlier(first: Option<Fraction>, second: Option<Fraction>) -> Option<Fraction>
-    ensures { IsEarlier first second result }
-{
-    let (Some(a), Some(b)) = (first, second) else {
-        return first.or(second);
-    };
-    if b < a { Some(b) } else { Some(a) }
-}
-
 impl Progress {
-    /// Nothing is eaten: each limit is open with its ceiling left, and each agent is at its first place.
+    /// Nothing is eaten: each limit is open with its ceiling left, and each agent is at its first place, without a speed.
     pub fn start(alloc: Global, ceilings: Vec<u128>, agents: usize) -> Result<Progress, AllocError>
+        requires { length ceilings.items < 2 ^ 32 }
         ensures { IfOk result (IsStartOver ceilings.items agents) }
     {
         let unit = 1;
@@ -168,27 +111,25 @@ impl Progress {
             rests: ceilings,
             speeds: vec![in alloc; 0; limits]?,
             places: vec![in alloc; 0; agents]?,
+            dues: Queue::of(alloc, limits as u32, Due::NEVER)?,
         })
     }
 
     /// The earliest moment before the end at which an open limit is full, where there is one.
     fn next_moment(&self) -> Option<Fraction>
-        requires { CanGoOn self.now }
+        requires { AreDue self.now }
         ensures { IsNextMoment self.now result }
     {
-        let mut next = None;
-        for limit in 0..self.moments.len() {
-            if self.moments[limit] == self.unit {
-                let speed = self.speeds[limit] as u128;
-                next = earlier(next, key_of(self.rests[limit], speed, self.unit, self.at));
-            }
+        if self.dues.len() == 0 {
+            return None;
         }
-        next
+        self.dues.key(self.dues.top()).moment
     }
 
-    /// Goes on by `step` over the unit times `factor`. A limit of which nothing is left is full now.
+    /// Goes on by `step` over the unit times `factor`. A limit of which nothing is left is full now, and never due again.
     fn advance(&mut self, factor: u128, step: u128)
         requires within { CanGoOn self.old }
+        requires dues { AreDue self.old }
         requires positive { 1 ≤ factor }
         requires before_end { factor * self.old.at + step < factor * self.old.unit }
         requires fine { factor * self.old.unit ≤ 2 ^ 116 }
@@ -198,6 +139,8 @@ impl Progress {
         ensures limits { AreLimitsAdvanced self.old self.new factor step }
         ensures speeds { self.new.speeds.items ≡ self.old.speeds.items }
         ensures places { self.new.places.items ≡ self.old.places.items }
+        ensures steady { IsSteady self.new }
+        ensures dues { AreDue self.new }
     {
         let taken = Step {
             unit: self.unit,
@@ -210,34 +153,132 @@ impl Progress {
             let (moment, rest) = taken.limit(self.moments[limit], self.rests[limit], speed);
             self.moments[limit] = moment;
             self.rests[limit] = rest;
+            if moment == taken.at {
+                self.dues.set_key(limit as u32, Due::NEVER);
+            }
         }
         self.unit *= factor;
         self.at = taken.at;
     }
 
-    /// Seats each agent at its first open place, and adds the speeds up.
+    /// Gives a limit another speed, and with it another moment at which it is due.
+    fn set_speed(&mut self, limit: u32, speed: u32)
+        requires steady { IsSteady self.old }
+        requires dues { AreDue self.old }
+        requires limit { limit < length self.old.moments.items }
+        requires speed { speed ≤ 1000 }
+        ensures speeds { self.new.speeds.items ≡ slice_set self.old.speeds.items limit speed }
+        ensures places { self.new.places.items ≡ self.old.places.items }
+        ensures held { IsHeld self.old self.new }
+        ensures dues { AreDue self.new }
+    {
+        let index = limit as usize;
+        self.speeds[index] = speed;
+        if self.moments[index] != self.unit {
+            return;
+        }
+        let due = Due::of(self.rests[index], speed as u128, self.unit, self.at);
+        self.dues.set_key(limit, due);
+    }
+
+    /// Adds a demand to the speed of each of these limits.
+    fn add_speed(&mut self, holders: &[u32], demand: u32)
+        requires steady { IsSteady self.old }
+        requires dues { AreDue self.old }
+        requires inside { All (λ h. h < length self.old.moments.items) holders.now }
+        requires room { (j : ℕ) → slice_index self.old.speeds.items j
+            + demand * count_by (λ h. h == j) holders.now ≤ 1000 }
+        ensures speeds { (j : ℕ) → slice_index self.new.speeds.items j
+            ≡ slice_index self.old.speeds.items j + demand * count_by (λ h. h == j) holders.now }
+        ensures places { self.new.places.items ≡ self.old.places.items }
+        ensures held { IsHeld self.old self.new }
+        ensures dues { AreDue self.new }
+    {
+        for limit in holders {
+            let speed = self.speeds[*limit as usize] + demand;
+            self.set_speed(*limit, speed);
+        }
+    }
+
+    /// Takes a demand off the speed of each of these limits.
+    fn take_speed(&mut self, holders: &[u32], demand: u32)
+        requires steady { IsSteady self.old }
+        requires dues { AreDue self.old }
+        requires inside { All (λ h. h < length self.old.moments.items) holders.now }
+        requires eaten { (j : ℕ) → demand * count_by (λ h. h == j) holders.now
+            ≤ slice_index self.old.speeds.items j }
+        requires slow { (j : ℕ) → slice_index self.old.speeds.items j ≤ 1000 }
+        ensures speeds { (j : ℕ) → slice_index self.new.speeds.items j
+            + demand * count_by (λ h. h == j) holders.now ≡ slice_index self.old.speeds.items j }
+        ensures places { self.new.places.items ≡ self.old.places.items }
+        ensures held { IsHeld self.old self.new }
+        ensures dues { AreDue self.new }
+    {
+        for limit in holders {
+            let speed = self.speeds[*limit as usize] - demand;
+            self.set_speed(*limit, speed);
+        }
+    }
+
+    /// Has each agent eat at the first place of its list.
+    fn sit_down(&mut self, lines: &[Line])
+        requires lines { AreLines (length self.old.moments.items) lines.now }
+        requires steady { IsSteady self.old }
+        requires dues { AreDue self.old }
+        requires many { length self.old.places.items ≡ length lines.now }
+        requires first { (i : ℕ) → slice_index self.old.places.items i ≡ 0 }
+        requires zero { (j : ℕ) → slice_index self.old.speeds.items j ≡ 0 }
+        ensures speeds { (j : ℕ) → slice_index self.new.speeds.items j
+            ≡ seat_speed lines.now self.old.places.items j }
+        ensures places { self.new.places.items ≡ self.old.places.items }
+        ensures held { IsHeld self.old self.new }
+        ensures dues { AreDue self.new }
+    {
+        for agent in 0..lines.len() {
+            let line = &lines[agent];
+            self.add_speed(line.holders(0), line.demand());
+        }
+    }
+
+    /// Moves an agent on to its first open place, if it isn't there.
+    fn move_on(&mut self, lines: &[Line], agent: usize)
+        requires lines { AreLines (length self.old.moments.items) lines.now }
+        requires agent { agent < length lines.now }
+        requires moving { IsMoving lines.now agent self.old }
+        ensures moving { IsMoving lines.now (agent + 1) self.new }
+        ensures held { IsHeld self.old self.new }
+    {
+        let line = &lines[agent];
+        let old = self.places[agent];
+        let place = first_open(line, old, &self.moments, self.unit);
+        if place == old {
+            return;
+        }
+        self.take_speed(line.holders(old), line.demand());
+        self.add_speed(line.holders(place), line.demand());
+        self.places[agent] = place;
+    }
+
+    /// Moves each agent on to its first open place.
     fn seat(&mut self, lines: &[Line])
         requires lines { AreLines (length self.old.moments.items) lines.now }
-        requires so_far { AreSoFar self.old.unit self.old.moments.items lines.now
-            self.old.places.items }
-        requires many { length self.old.speeds.items ≡ length self.old.moments.items }
-        ensures { IsSeated lines.now self.old self.new }
+        requires moving { IsMoving lines.now 0 self.old }
+        ensures seated { IsSeated lines.now self.old self.new }
+        ensures dues { AreDue self.new }
     {
-        self.speeds.fill(0);
-        seat_agents(
-            lines,
-            &self.moments,
-            self.unit,
-            &mut self.places,
-            &mut self.speeds,
-        );
+        for agent in 0..lines.len() {
+            self.move_on(lines, agent);
+        }
     }
 
     /// Goes on to a moment, and notes the limits that are full then.
     fn go_to(&mut self, moment: Fraction) -> Result<(), Beyond>
         requires within { CanGoOn self.old }
+        requires dues { AreDue self.old }
         requires earliest { IsEarliestMoment self.old moment }
         ensures step { OnOk result (IsStepTo self.old self.new moment) }
+        ensures steady { OnOk result (IsSteady self.new) }
+        ensures dues { OnOk result (AreDue self.new) }
         ensures beyond { IfErr result
             (λ e. IsBeyond self.old.unit (denominator moment) (2 ^ 116) e.lcm) }
     {
@@ -259,6 +300,7 @@ impl Progress {
             → IfErr result (λ e. IsTooFineIn market e.lcm) }
     {
         self.advance(1, 0);
+        self.sit_down(lines);
         self.seat(lines);
         while let Some(moment) = self.next_moment() {
             self.go_to(moment)?;

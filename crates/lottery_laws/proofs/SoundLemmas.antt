@@ -1,21 +1,22 @@
 -- A sound lottery: what its pieces keep, that nothing is worth more, and that tickets count units; and that solutions are sound.
-use Rattle.std.proofs.Common.{◌≡◌, ◌&&◌, ◌∙◌, ◌+◌, ◌*◌, ◌<◌, ◌≤◌, ◌⊎◌, ◌∷◌, [], ℕ, suc, zero, List, true, cond, ap, sym, subst, refl, inl, inr, arith, length, map, drop, get_or, All}
+use Rattle.std.proofs.Common.{◌≡◌, ◌&&◌, ◌∙◌, ◌+◌, ◌*◌, ◌<◌, ◌≤◌, ◌⊎◌, ◌++◌, ◌∷◌, [], ℕ, suc, zero, List, true, cond, ap, sym, subst, refl, inl, inr, arith, length, map, drop, get_or, All}
 use Rattle.std.specs.Prelude.{count_by, nat_eq, nat_le, nat_lt, slice_get, slice_index, sum_by}
 use Rattle.std.specs.List.{AllByRecursion, range_with_len, enumerate_from}
 use Rattle.std.specs.Option.{option_map_or}
 use Rattle.std.specs.Set.{is_member}
 use Rattle.std.proofs.lemmas.Bool.{cases_Bool, cases_lt, and_from, and_parts, both_ways, false_from_ne_true, leb-false, leb-true, lt-ltb}
-use Rattle.std.proofs.lemmas.List.{get_or-map, get_or_past, length-map, length_push}
+use Rattle.std.proofs.Math.Seq.{take-append_seam}
+use Rattle.std.proofs.lemmas.List.{append-nil, get_or-map, get_or_past, length-map, length_push, map-append}
 use Rattle.std.proofs.lemmas.List.Elements.{All-drop, All-same, All-take, All-weaker, filter_passes, recursion_from_All}
 use Rattle.std.proofs.lemmas.List.FromFn.{get_or-enumerate_from, get_or-range_with_len, length-enumerate_from, length-range_with_len}
 use Rattle.std.proofs.lemmas.List.Sums.{sum_by-cons, get_or-le-sum_by}
 use Rattle.definitions.specs.declared.Cell.{Cell}
 use Rattle.definitions.specs.Assignment.{IsRandomAssignment}
 use Rattle.definitions.specs.Laws.{capped_cells}
-use Rattle.definitions.specs.Lotteries.{LotteryValue, Solves, matrices_of}
+use Rattle.definitions.specs.Lotteries.{LotteryValue, SolvesFor, matrices_of}
 use Rattle.definitions.specs.Pieces.{WeightedMatrix, Decomposes, weighted, piece_count, matrix_of}
-use Rattle.definitions.specs.Rounding.{Rounds}
-use Rattle.definitions.specs.Sets.{SetValue, IsCellWithin, IsFeasible, MeetsQuotas, cell_of, cell_index, cells_of, row_cells, row_sum, set_sum, unit_at, units_of}
+use Rattle.definitions.specs.Rounding.{IsRounded, Rounds}
+use Rattle.definitions.specs.Sets.{FamilyValue, SetValue, IsCellWithin, IsFeasible, MeetsQuotas, cell_of, cell_index, cells_of, row_cells, row_sum, set_sum, unit_at, units_of}
 use Rattle.definitions.specs.Texts.{null_name}
 use Rattle.definitions.specs.Tickets.{piece_of, named_units}
 use Rattle.definitions.specs.Values.{PieceValue, ProblemValue, IsProblem, column_count, demand_at, is_capped, limits_of, list_at, listed_cells, row_sets, stated_sets}
@@ -32,7 +33,7 @@ use Rattle.certificate_laws.proofs.OffLists.{undominated_off_lists}
 use Rattle.rounding_laws.proofs.Named.{named_is_unit}
 use Rattle.rounding_laws.proofs.Places.{matrix_at}
 use Rattle.rounding_laws.proofs.Quotas.{keeps_quotas, small_cell}
-use Rattle.lottery_laws.specs.Sound.{IsForOneUnit, IsSound, MeetsProblem, tickets_giving}
+use Rattle.lottery_laws.specs.Sound.{HasSetsOf, IsForOneUnit, IsSound, IsSoundFor, MeetsProblem, tickets_giving}
 
 -- ---- sums and counts
 
@@ -63,6 +64,10 @@ cell_within_row x columns i a inside =
     get_or-le-sum_by (λ b. x (cell_of i b)) (range_with_len 0 columns) a 0 (omega (arith, inside, length-range_with_len 0 columns)) in
     omega (arith, term, ap (λ b. x (cell_of i b)) at, sum_mapped x (cell_of i) (range_with_len 0 columns))
 
+-- what holds of all holds of those in front
+All-front : {X : Type 0} (P : X → Type 0) (xs ys : List X) → All P (xs ++ ys) → All P xs
+All-front P xs ys all = subst (All P) (take-append_seam xs ys) (All-take P (length xs) (xs ++ ys) all)
+
 -- ---- what a whole matrix keeps of a random assignment that it rounds
 
 -- the row of agent i is a set of the family
@@ -79,7 +84,7 @@ each_row P p i h inside all =
     let plain : 0 + i ≡ i = omega arith in
     subst (λ n. P (row (n, demand_at p i))) plain (subst P at (rows i (row (0, 0)) (omega (arith, known, length-map (enumerate_from 0 p.demands) row))))
 
-module _ (p : ProblemValue) (l : LotteryValue) (s : IsSound p l) where
+module _ (f : FamilyValue) (p : ProblemValue) (l : LotteryValue) (s : IsSoundFor f p l) (has : HasSetsOf p f) where
   abbrev d : ℕ
   d = l.shares.denominator
 
@@ -95,14 +100,29 @@ module _ (p : ProblemValue) (l : LotteryValue) (s : IsSound p l) where
   feasible : IsFeasible p.family l.shares
   feasible = random_feasible p l.shares h assigned
 
-  wide : l.shares.columns ≡ column_count p
+  pub wide : l.shares.columns ≡ column_count p
   wide = s.lottery.columns ∙ ap (λ (names : List (List ℕ)). length names) s.columns ∙ length_push p.objects null_name
 
-  tall : l.shares.agents ≡ length p.agents
+  pub tall : l.shares.agents ≡ length p.agents
   tall = s.lottery.rows ∙ ap (λ (names : List (List ℕ)). length names) s.agents
 
+  -- the cells of the sets of f are those of the problem's family, and then others
+  cells_first : cells_of f ≡ cells_of p.family ++ map (λ (q : SetValue). q.cells) has.0
+  cells_first = ap (λ (sets : List SetValue). map (λ (q : SetValue). q.cells) sets) has.1 ∙ map-append (λ (q : SetValue). q.cells) p.family.sets has.0
+
+  rounds_own : (m : List ℕ) → Rounds l.shares.columns (cells_of f) l.shares.units d m → Rounds l.shares.columns (cells_of p.family) l.shares.units d m
+  rounds_own m r = record {
+    shape = r.shape;
+    cells = r.cells;
+    sums = All-front (λ q. IsRounded (set_sum (unit_at l.shares.columns l.shares.units) q) d (set_sum (unit_at l.shares.columns m) q)) (cells_of p.family) _
+        (subst (All (λ q. IsRounded (set_sum (unit_at l.shares.columns l.shares.units) q) d (set_sum (unit_at l.shares.columns m) q))) cells_first r.sums);
+  }
+
   rounded : All (λ piece. Rounds l.shares.columns (cells_of p.family) l.shares.units d piece.matrix) (matrices_of l)
-  rounded = subst (λ n. All (λ (piece : WeightedMatrix). Rounds n (cells_of p.family) l.shares.units d piece.matrix) (matrices_of l)) (sym wide) s.pieces.rounded
+  rounded =
+      All-weaker (λ (piece : WeightedMatrix). Rounds l.shares.columns (cells_of f) l.shares.units d piece.matrix) (λ (piece : WeightedMatrix). Rounds l.shares.columns (cells_of p.family) l.shares.units d piece.matrix)
+      (λ piece r. rounds_own piece.matrix r) (matrices_of l)
+      (subst (λ n. All (λ (piece : WeightedMatrix). Rounds n (cells_of f) l.shares.units d piece.matrix) (matrices_of l)) (sym wide) s.pieces.rounded)
 
   -- each piece meets the quotas of the problem's family
   quotas : All (λ piece. MeetsQuotas p.family piece.matrix) (matrices_of l)
@@ -199,8 +219,8 @@ module _ (p : ProblemValue) (l : LotteryValue) (s : IsSound p l) where
 
   named : (c : Cell) → IsCellWithin l.shares.agents l.shares.columns c → named_units l.pieces c ≡ x c
   named c within =
-      named_is_unit l.shares.agents l.shares.columns d (cells_of p.family) l.shares.units l.pieces c s.lottery.shares.shape
-      (subst (λ n. Decomposes n (cells_of p.family) l.shares.units d (matrices_of l)) (sym wide) s.pieces) within
+      named_is_unit l.shares.agents l.shares.columns d (cells_of f) l.shares.units l.pieces c s.lottery.shares.shape
+      (subst (λ n. Decomposes n (cells_of f) l.shares.units d (matrices_of l)) (sym wide) s.pieces) within
 
   -- as many tickets as its units give it
   tickets : (c : Cell) → IsCellWithin l.shares.agents l.shares.columns c → IsForOneUnit p c → tickets_giving l c ≡ x c
@@ -213,8 +233,8 @@ module _ (p : ProblemValue) (l : LotteryValue) (s : IsSound p l) where
 
   -- ---- all of it
 
-  pub sound_meets : MeetsProblem p s.prices l
-  sound_meets = record {
+  pub sound_for_meets : MeetsProblem p s.prices l
+  sound_for_meets = record {
     ceilings = ceilings;
     demands = demands;
     undominated = λ e other within more. undominated_off_lists p s.prices d x e other h assigned s.certified within.one within.demands within.ceilings more;
@@ -223,9 +243,16 @@ module _ (p : ProblemValue) (l : LotteryValue) (s : IsSound p l) where
     tickets = tickets;
   }
 
+-- the problem's own family has its sets, and no others
+pub own_sets : (p : ProblemValue) → HasSetsOf p p.family
+own_sets p = ([], sym (append-nil p.family.sets))
+
+pub sound_meets : (p : ProblemValue) (l : LotteryValue) (s : IsSound p l) → MeetsProblem p s.prices l
+sound_meets p l s = sound_for_meets p.family p l s (own_sets p)
+
 -- a lottery that solves a problem is sound for it
-pub solution_sound : (p : ProblemValue) (l : LotteryValue) → Solves p l → IsSound p l
-solution_sound p l s = record {
+unfoldable pub solution_sound : (f : FamilyValue) (p : ProblemValue) (l : LotteryValue) → SolvesFor f p l → IsSoundFor f p l
+solution_sound f p l s = record {
   problem = s.problem;
   lottery = s.lottery;
   agents = s.agents;
@@ -239,6 +266,6 @@ solution_sound p l s = record {
 }
 
 -- and so meets it, at its own prices
-pub solution_meets : (p : ProblemValue) (l : LotteryValue) (s : Solves p l) → MeetsProblem p s.prices l
+pub solution_meets : (f : FamilyValue) (p : ProblemValue) (l : LotteryValue) (s : SolvesFor f p l) → HasSetsOf p f → MeetsProblem p s.prices l
 unfolding solution_sound
-solution_meets p l s = sound_meets p l (solution_sound p l s)
+solution_meets f p l s has = sound_for_meets f p l (solution_sound f p l s) has

@@ -1,23 +1,22 @@
 -- Lotteries that are sound for a problem, however they were made, and what is known of them.
 -- Random assignment, stochastic dominance: Bogomolnaia and Moulin 2001. Rounding at every set of a bihierarchy keeps quotas:
 -- Budish, Che, Kojima and Milgrom 2013. That an efficient assignment is best for a sum of utilities: McLennan 2002.
-use Rattle.std.specs.Prelude.{◌≡◌, ◌≤◌, ◌<◌, ◌*◌, ◌⊎◌, ◌*ℤ◌, ◌≤ℤ◌, ◌++◌, ◌∷◌, [], ℕ, Bool, Some, pos, All, map, length, count_by, nat_lt, slice_get}
+use Rattle.std.specs.Prelude.{◌≡◌, ◌≤◌, ◌<◌, ◌*◌, ◌⊎◌, ◌*ℤ◌, ◌≤ℤ◌, ◌++◌, ◌∷◌, [], ℕ, Bool, List, Some, pos, All, map, length, count_by, nat_lt, slice_get}
 use Rattle.std.specs.List.{range_with_len}
 use Rattle.std.specs.Option.{option_map_or}
 use Rattle.definitions.specs.declared.Cell.{Cell}
 use Rattle.definitions.specs.Assignment.{IsRandomAssignment, Dominates, worth_total}
 use Rattle.definitions.specs.Certificate.{Certifies}
-use Rattle.definitions.specs.Lotteries.{IsLottery, LotteryValue, Solves, matrices_of}
+use Rattle.definitions.specs.Lotteries.{IsLottery, LotteryValue, SolvesFor, matrices_of}
 use Rattle.definitions.specs.Pieces.{Decomposes, WeightedMatrix, piece_count}
-use Rattle.definitions.specs.Sets.{IsCellWithin, cells_of, row_sum, set_sum, unit_at, units_of}
+use Rattle.definitions.specs.Sets.{FamilyValue, IsCellWithin, SetValue, cells_of, row_sum, set_sum, unit_at, units_of}
 use Rattle.definitions.specs.Texts.{null_name}
 use Rattle.definitions.specs.Tickets.{piece_of, named_units}
 use Rattle.definitions.specs.Values.{PricesValue, ProblemValue, IsProblem, column_count, demand_at, limits_of}
 
--- the lottery is sound for the problem: its names, lists and number of prices are the problem's; its shares are a random
--- assignment, which its prices and worths certify; and its pieces decompose them, for the sets that are stated and the
--- agents' rows
-pub record IsSound (p : ProblemValue) (l : LotteryValue) : Type 0 where
+-- the lottery is sound for the problem, with pieces for the family f: its names, lists and number of prices are the problem's;
+-- its shares are a random assignment, which its prices and worths certify; and its pieces decompose them, for the sets of f
+pub record IsSoundFor (f : FamilyValue) (p : ProblemValue) (l : LotteryValue) : Type 0 where
   pub problem : IsProblem p
   pub lottery : IsLottery l
   pub agents : l.agents ≡ p.agents
@@ -27,7 +26,15 @@ pub record IsSound (p : ProblemValue) (l : LotteryValue) : Type 0 where
   pub priced : l.prices ≡ Some prices
   pub assigned : IsRandomAssignment p l.shares.denominator (units_of l.shares)
   pub certified : Certifies p l.shares.denominator (units_of l.shares) prices
-  pub pieces : Decomposes (column_count p) (cells_of p.family) l.shares.units l.shares.denominator (matrices_of l)
+  pub pieces : Decomposes (column_count p) (cells_of f) l.shares.units l.shares.denominator (matrices_of l)
+
+-- the lottery is sound for the problem: its pieces are for the problem's own family, the sets that are stated and the agents' rows
+abbrev pub IsSound : ProblemValue → LotteryValue → Type 0
+IsSound p l = IsSoundFor p.family p l
+
+-- the family has the sets of the problem's family, and after them others
+abbrev pub HasSetsOf : ProblemValue → FamilyValue → Type 0
+HasSetsOf p f = (others : List SetValue) × (f.sets ≡ p.family.sets ++ others)
 
 -- over d each agent has exactly its demand, and no limit is passed: a random assignment, but for units off the lists
 pub record KeepsDemandsAndLimits (p : ProblemValue) (d : ℕ) (x : Cell → ℕ) : Type 0 where
@@ -69,10 +76,11 @@ pub record MeetsProblem (p : ProblemValue) (prices : PricesValue) (l : LotteryVa
   pub tickets : (c : Cell) → IsCellWithin l.shares.agents l.shares.columns c → IsForOneUnit p c
       → tickets_giving l c ≡ units_of l.shares c
 
--- each sound lottery meets its problem, at its own prices
+-- each sound lottery meets its problem, at its own prices, also where its pieces are for more sets
 abbrev pub SoundMeetProblems : Type 0
-SoundMeetProblems = (p : ProblemValue) (l : LotteryValue) (sound : IsSound p l) → MeetsProblem p sound.prices l
+SoundMeetProblems = (f : FamilyValue) (p : ProblemValue) (l : LotteryValue) (sound : IsSoundFor f p l) → HasSetsOf p f
+    → MeetsProblem p sound.prices l
 
--- a lottery that solves a problem is sound for it
+-- a lottery that solves a problem is sound for it, for the same family
 abbrev pub SolutionsAreSound : Type 0
-SolutionsAreSound = (p : ProblemValue) (l : LotteryValue) → Solves p l → IsSound p l
+SolutionsAreSound = (f : FamilyValue) (p : ProblemValue) (l : LotteryValue) → SolvesFor f p l → IsSoundFor f p l

@@ -1,9 +1,9 @@
 -- `audit-matrix`: that its outcome has one answer where it refuses, and what is left of it for three lawful files.
 use Rattle.std.proofs.Common.{◌≡◌, ◌∙◌, ◌+◌, ℕ, List, Result, Ok, Err, ap, arith, length, refl}
 use Rattle.alloc_audits.specs.AuditMatrix.{AuditMatrixAnswers, IsSplitAudited, PassesSplitAudit, SplitsOrFails, audit_matrix_meaning}
-use Rattle.alloc_audits.specs.Verdicts.{audit_cause, pass_text}
+use Rattle.alloc_audits.specs.Verdicts.{LeavesTooFine, audit_cause, pass_text}
 use Rattle.alloc_audits.proofs.SplitAudits.{split_passes}
-use Rattle.alloc_audits.proofs.VerdictsLemmas.{Judged, judged_fault, judged_fine, judged_pass, judges}
+use Rattle.alloc_audits.proofs.VerdictsLemmas.{Judged, judged_done, judged_fault, judged_fine, judges}
 use Rattle.alloc_outcomes.specs.Answers.{Answer, Follows, Gives, IsText, RefusesAlone}
 use Rattle.alloc_outcomes.specs.Causes.{infeasible_cause, input_cause, lottery_cause, scale_cause, trees_cause}
 use Rattle.alloc_outcomes.proofs.AnswersLemmas.{gives_alone, passed, text_alone}
@@ -74,14 +74,14 @@ audit_matrix_alone matrix quotas bytes =
 
 module _ (given : SharesValue) (f : FamilyValue) (l : LotteryValue) where
   abbrev Judgement : Answer → Type 0
-  Judgement = Judged (Splits given f l) (Splits given f l) (IsTooFine given)
+  Judgement = Judged pass_text (Splits given f l) (Splits given f l) (LeavesTooFine (IsTooFine given))
 
   module _ (matrix quotas bytes : List ℕ) (files : IsSplitAudited matrix quotas bytes given f l) where
     verdict_end : (x : ScaledValue) (answer : Answer) (r : Result (Unit {0}) Fault) → ScalesOrNot given (Ok x) → SplitsOrFails given x f l r
         → Follows audit_cause (λ _. IsText pass_text) r answer → Judgement answer
-    verdict_end x answer (Ok u) scaled splits h = judged_pass (Splits given f l) (Splits given f l) (IsTooFine given) answer h splits
+    verdict_end x answer (Ok u) scaled splits h = judged_done pass_text (Splits given f l) (Splits given f l) (LeavesTooFine (IsTooFine given)) answer h splits
     verdict_end x answer (Err fault) scaled fails h =
-        judged_fault (Splits given f l) (Splits given f l) (IsTooFine given) fault answer h
+        judged_fault pass_text (Splits given f l) (Splits given f l) (LeavesTooFine (IsTooFine given)) answer fault h
         (fails_unsplit given x f quotas files.splittable.shares.1.shares scaled files.splittable.family l fault fails)
 
     meets_end : (x : ScaledValue) (answer : Answer) (r : Result (Unit {0}) Infeasible) → ScalesOrNot given (Ok x) → MeetsOrNot f x r
@@ -103,7 +103,7 @@ module _ (given : SharesValue) (f : FamilyValue) (l : LotteryValue) where
         Gives lottery_cause (LotteryReads bytes) (λ m. Gives audit_cause (SplitsOrFails given x g m) (λ _. IsText pass_text)))))) r answer
         → Judgement answer
     scale_end answer (Err (scaling.TooFine denominator agent column)) m h =
-        judged_fine (Splits given f l) (Splits given f l) (IsTooFine given) denominator answer h (too_fine_from_entry given denominator agent column files.splittable.shares.1.shares m)
+        judged_fine pass_text (Splits given f l) (Splits given f l) (LeavesTooFine (IsTooFine given)) answer denominator h (too_fine_from_entry given denominator agent column files.splittable.shares.1.shares m)
     scale_end answer (Err (scaling.OverTotal agent column)) m h = absurd (files.splittable.total (over_total_from_entry given agent column m))
     scale_end answer (Err scaling.NoMemory) m h = absurd m
     scale_end answer (Ok x) m h =
@@ -121,7 +121,7 @@ pub audit_matrix_meant : IsMeantOfThree audit_matrix_meaning
 audit_matrix_meant = record {
   alone = audit_matrix_alone;
   holds = λ matrix quotas bytes run came given f l files.
-      judges (AuditMatrixAnswers matrix quotas bytes) (Splits given f l) (PassesSplitAudit given f l run) (Splits given f l) (IsTooFine given) run
+      judges pass_text (AuditMatrixAnswers matrix quotas bytes) (Splits given f l) (PassesSplitAudit given f l run) (Splits given f l) (LeavesTooFine (IsTooFine given)) run
       (came files.splittable.short.0 files.splittable.short.1 files.short) (audit_matrix_judged given f l matrix quotas bytes files)
       (λ splits wrote. record { well = well_of given f l splits (files.splittable.feasible l.shares splits.scaled splits.lottery.shares); wrote = wrote });
 }

@@ -7,7 +7,7 @@ use Rattle.std.proofs.lemmas.Int.{ints}
 use Rattle.std.proofs.lemmas.List.{length_push}
 use Rattle.std.proofs.lemmas.List.Elements.{All-from_recursion, All-weaker}
 use Rattle.std.proofs.lemmas.Slice.Zip.{AllZip-long}
-use Rattle.alloc_audits.specs.Audit.{audit_fault, prices_of}
+use Rattle.alloc_audits.specs.Audit.{audit_fault, certified_fault, prices_of}
 use Rattle.cert_check.specs.PieceFaults.{ArePiecesFor, IsMatrixFor, first_piece_fault}
 use Rattle.cert_check.specs.PriceFaults.{AreSmall, IsMatrixOf, first_price_fault}
 use Rattle.cert_check.specs.ShapeFaults.{AreShapeOf, first_shape_fault}
@@ -18,15 +18,16 @@ use Rattle.cert_check.proofs.PiecePass.{pass_pieces, pieces_pass}
 use Rattle.cert_check.proofs.PricePass.{neither, pass_prices, passes, prices_pass}
 use Rattle.cert_check.proofs.ShapePass.{shape_verdict}
 use Rattle.definitions.proofs.Families.{stated_count}
-use Rattle.definitions.specs.Certificate.{HasShapeOf}
+use Rattle.definitions.specs.Assignment.{IsRandomAssignment}
+use Rattle.definitions.specs.Certificate.{Certifies, HasShapeOf}
 use Rattle.definitions.specs.Lotteries.{HasNoPrices, HasPrices, LotteryValue, ends_with_none, matrices_of}
 use Rattle.definitions.specs.Pieces.{Decomposes}
-use Rattle.definitions.specs.Sets.{cells_of}
+use Rattle.definitions.specs.Sets.{FamilyValue, IsFamily, cells_of, units_of}
 use Rattle.definitions.specs.Texts.{null_name}
 use Rattle.definitions.specs.Values.{IsProblem, PricesValue, ProblemValue, column_count, worths_of}
 use Rattle.definitions.proofs.Passed.{both-pass}
 use Rattle.lottery_file.specs.Lotteries.{IsLawfulLottery, IsPriced, IsRanking}
-use Rattle.lottery_laws.specs.Sound.{IsSound}
+use Rattle.lottery_laws.specs.Sound.{IsSound, IsSoundFor}
 
 abbrev no_prices : PricesValue
 no_prices = record { price = []; worth = [] }
@@ -131,21 +132,47 @@ module _ (p : ProblemValue) (l : LotteryValue) (h : IsProblem p) (w : IsLawfulLo
     worths = All-from_recursion (All IsSmallWorth) (prices_of l).worth (small_worths (length l.columns) l.lists (prices_of l).worth lists);
   }
 
+-- ---- a lawful lottery of which no check of shape or of prices fails
+
+abbrev price_fault : ProblemValue → LotteryValue → Option Fault
+price_fault p l = first_price_fault p l.shares (prices_of l)
+
+module _ (p : ProblemValue) (l : LotteryValue) (h : IsProblem p) (w : IsLawfulLottery l) (e : certified_fault p l ≡ None) where
+  checked_shape : HasShape p l
+  checked_shape = shape_from p l (both-pass (shape_fault p l) (price_fault p l) e).0
+
+  pub checked_matrix : IsMatrixOf p l.shares
+  checked_matrix = matrix_of_problem p l h w checked_shape
+
+  checked_prices : IsRandomAssignment p l.shares.denominator (units_of l.shares) × Certifies p l.shares.denominator (units_of l.shares) (prices_of l)
+  checked_prices = prices_pass p l.shares (prices_of l) h w.lottery.shares checked_matrix (shape_of_problem p l h w checked_shape) (both-pass (shape_fault p l) (price_fault p l) e).1
+
+  pub checked_assignment : IsRandomAssignment p l.shares.denominator (units_of l.shares)
+  checked_assignment = checked_prices.0
+
 -- ---- pieces
 
-pub matrix_for_family : (p : ProblemValue) (l : LotteryValue) → IsProblem p → IsMatrixOf p l.shares → IsMatrixFor p.family l.shares
-matrix_for_family p l h m = record { agents = m.agents ∙ sym h.family_agents; columns = m.columns ∙ sym h.family_columns }
+-- a lawful family over the problem's agents and columns
+pub record IsOver (p : ProblemValue) (f : FamilyValue) : Type 0 where
+  pub lawful : IsFamily f
+  pub agents : f.agents ≡ length p.agents
+  pub columns : f.columns ≡ column_count p
+
+-- the problem's own is
+pub own_family : (p : ProblemValue) → IsProblem p → IsOver p p.family
+own_family p h = record { lawful = h.family; agents = h.family_agents; columns = h.family_columns }
+
+pub matrix_for_family : (f : FamilyValue) (p : ProblemValue) (l : LotteryValue) → IsOver p f → IsMatrixOf p l.shares → IsMatrixFor f l.shares
+matrix_for_family f p l over m = record { agents = m.agents ∙ sym over.agents; columns = m.columns ∙ sym over.columns }
 
 -- ---- all checks
 
 -- where every check passes, the lottery is sound
-pub passes_sound : (p : ProblemValue) (l : LotteryValue) → IsProblem p → IsLawfulLottery l → audit_fault p l ≡ None → IsSound p l
-passes_sound p l h w e =
-    let first = both-pass (shape_fault p l) _ e in
-    let second = both-pass (first_price_fault p l.shares (prices_of l)) (first_piece_fault p.family l.shares l.pieces) first.1 in
-    let s : HasShape p l = shape_from p l first.0 in
-    let m : IsMatrixOf p l.shares = matrix_of_problem p l h w s in
-    let certified = prices_pass p l.shares (prices_of l) h w.lottery.shares m (shape_of_problem p l h w s) second.0 in
+pub passes_sound : (f : FamilyValue) (p : ProblemValue) (l : LotteryValue) → IsProblem p → IsLawfulLottery l → IsOver p f
+    → certified_fault p l ≡ None → first_piece_fault f l.shares l.pieces ≡ None → IsSoundFor f p l
+passes_sound f p l h w over certified pieces =
+    let s : HasShape p l = checked_shape p l h w certified in
+    let m : IsMatrixOf p l.shares = checked_matrix p l h w certified in
     let q : ArePiecesFor l.shares l.pieces = record { weights = w.lottery.weights; adds_up = w.lottery.adds_up; gives = w.lottery.gives } in
     record {
       problem = h;
@@ -155,13 +182,19 @@ passes_sound p l h w e =
       lists = sym s.lists_same;
       prices = prices_of l;
       priced = priced p l h w s;
-      assigned = certified.0;
-      certified = certified.1;
-      pieces = subst (λ n. Decomposes n (cells_of p.family) l.shares.units l.shares.denominator (matrices_of l)) m.columns
-          (pieces_pass p.family l.shares l.pieces h.family w.lottery.shares (matrix_for_family p l h m) q second.1);
+      assigned = (checked_prices p l h w certified).0;
+      certified = (checked_prices p l h w certified).1;
+      pieces = subst (λ n. Decomposes n (cells_of f) l.shares.units l.shares.denominator (matrices_of l)) m.columns
+          (pieces_pass f l.shares l.pieces over.lawful w.lottery.shares (matrix_for_family f p l over m) q pieces);
     }
 
-module _ (p : ProblemValue) (l : LotteryValue) (s : IsSound p l) where
+-- the same for the problem's own family
+pub passes_sound_own : (p : ProblemValue) (l : LotteryValue) → IsProblem p → IsLawfulLottery l → audit_fault p l ≡ None → IsSound p l
+passes_sound_own p l h w e =
+    let checks = both-pass (certified_fault p l) (first_piece_fault p.family l.shares l.pieces) e in
+    passes_sound p.family p l h w (own_family p h) checks.0 checks.1
+
+module _ (f : FamilyValue) (p : ProblemValue) (l : LotteryValue) (s : IsSoundFor f p l) where
   is_prices : prices_of l ≡ s.prices
   is_prices = prices_are l s.prices s.priced
 
@@ -179,19 +212,19 @@ module _ (p : ProblemValue) (l : LotteryValue) (s : IsSound p l) where
   matrix : IsMatrixOf p l.shares
   matrix = record { agents = s.lottery.rows ∙ ap (λ (names : List (List ℕ)). length names) s.agents; columns = wide }
 
-  pieces_for : ArePiecesFor l.shares l.pieces
-  pieces_for = record { weights = s.lottery.weights; adds_up = s.lottery.adds_up; gives = s.lottery.gives }
-
-  no_price_fault : first_price_fault p l.shares (prices_of l) ≡ None
-  no_price_fault =
-      subst (λ (y : PricesValue). first_price_fault p l.shares y ≡ None) (sym is_prices)
-      (pass_prices p l.shares s.prices s.problem s.lottery.shares matrix s.certified.shape s.assigned s.certified)
-
-  no_piece_fault : first_piece_fault p.family l.shares l.pieces ≡ None
-  no_piece_fault =
-      pass_pieces p.family l.shares l.pieces s.problem.family s.lottery.shares (matrix_for_family p l s.problem matrix) pieces_for
-      (subst (λ n. Decomposes n (cells_of p.family) l.shares.units l.shares.denominator (matrices_of l)) (sym wide) s.pieces)
-
   -- where the lottery is sound, every check passes
-  pub sound_passes : audit_fault p l ≡ None
-  sound_passes = neither (shape_fault p l) _ (shape_none p l has_shape) (neither (first_price_fault p l.shares (prices_of l)) (first_piece_fault p.family l.shares l.pieces) no_price_fault no_piece_fault)
+  pub sound_certified : certified_fault p l ≡ None
+  sound_certified =
+      neither (shape_fault p l) (price_fault p l) (shape_none p l has_shape)
+      (subst (λ (y : PricesValue). first_price_fault p l.shares y ≡ None) (sym is_prices)
+      (pass_prices p l.shares s.prices s.problem s.lottery.shares matrix s.certified.shape s.assigned s.certified))
+
+  pub sound_pieces : IsOver p f → first_piece_fault f l.shares l.pieces ≡ None
+  sound_pieces over =
+      pass_pieces f l.shares l.pieces over.lawful s.lottery.shares (matrix_for_family f p l over matrix)
+      (record { weights = s.lottery.weights; adds_up = s.lottery.adds_up; gives = s.lottery.gives })
+      (subst (λ n. Decomposes n (cells_of f) l.shares.units l.shares.denominator (matrices_of l)) (sym wide) s.pieces)
+
+-- the same for the problem's own family
+pub sound_passes : (p : ProblemValue) (l : LotteryValue) → IsSound p l → audit_fault p l ≡ None
+sound_passes p l s = neither (certified_fault p l) _ (sound_certified p.family p l s) (sound_pieces p.family p l s (own_family p s.problem))

@@ -2,7 +2,7 @@
 use Rattle.std.proofs.Common.{◌≡◌, ◌∙◌, ℕ, List, ◌++◌, Option, Some, None, Result, Ok, Err, refl, subst, sym, ap}
 use Rattle.std.specs.Option.{option_or}
 use Rattle.std.specs.Prelude.{IsErrAnd}
-use Rattle.alloc_audits.specs.Verdicts.{Judges, JudgesBy, pass_text, result_at, result_of}
+use Rattle.alloc_audits.specs.Verdicts.{Judges, JudgesBy, Wrote, result_at, result_of}
 use Rattle.alloc_outcomes.specs.Answers.{Answer, refuse, text}
 use Rattle.alloc_outcomes.specs.Sentences.{Counts, Run}
 use Rattle.alloc_outcomes.specs.declared.cause.Cause.{Cause}
@@ -47,16 +47,15 @@ goes_on first rest none = ap (λ o. result_at (option_or o rest)) none
 
 -- ---- the sentence
 
--- the answers that a sentence leaves: `pass` where all is as it should be, a failed check where it isn't, or too fine a denominator
-abbrev pub Judged : (good sound too_fine : Type 0) → Answer → Type 0
-Judged good sound too_fine (text t) = (t ≡ pass_text) × good
-Judged good sound too_fine (refuse (causes.AuditFailed fault)) = sound → ⊥
-Judged good sound too_fine (refuse (causes.TooFine denominator)) = too_fine
-Judged good sound too_fine (refuse _) = ⊥
+-- the answers that a sentence leaves: this text where all is as it should be, a failed check where it isn't, or one of the other causes
+abbrev pub Judged : (due : List ℕ) → (good sound : Type 0) → (left : Cause → Type 0) → Answer → Type 0
+Judged due good sound left (text t) = (t ≡ due) × good
+Judged due good sound left (refuse (causes.AuditFailed fault)) = sound → ⊥
+Judged due good sound left (refuse cause) = left cause
 
-module _ (outcome : Answer → Type 0) (good done sound too_fine : Type 0) (before : List ℕ) (written : Option (List ℕ)) (expect : (answer : Answer) → outcome answer → Judged good sound too_fine answer)
-    (publish : good → written ≡ Some (before ++ pass_text) → done) where
-  judges_by : (old new : Counts) (cause : Cause) → CameBy outcome before written old new cause → JudgesBy done sound too_fine old new cause
+module _ (due : List ℕ) (outcome : Answer → Type 0) (good done sound : Type 0) (left : Cause → Type 0) (before : List ℕ) (written : Option (List ℕ))
+    (expect : (answer : Answer) → outcome answer → Judged due good sound left answer) (publish : good → written ≡ Some (before ++ due) → done) where
+  judges_by : (old new : Counts) (cause : Cause) → CameBy outcome before written old new cause → JudgesBy done sound left old new cause
   judges_by old new causes.Done came =
       let is = expect (text came.0) came.1 in
       publish is.1 (came.2 ∙ ap (λ (bytes : List ℕ). Some (before ++ bytes)) is.0)
@@ -65,15 +64,19 @@ module _ (outcome : Answer → Type 0) (good done sound too_fine : Type 0) (befo
   judges_by old new causes.NoMemory came = tt
   judges_by old new cause came = expect (refuse cause) came
 
-pub judges : (outcome : Answer → Type 0) (good done sound too_fine : Type 0) (run : Run) → Came outcome run → ((answer : Answer) → outcome answer → Judged good sound too_fine answer)
-    → (good → run.written ≡ Some (run.before ++ pass_text) → done) → Judges done sound too_fine run
-judges outcome good done sound too_fine run came expect publish = judges_by outcome good done sound too_fine run.before run.written expect publish run.counts run.counts_after run.cause came
+pub judges : (due : List ℕ) (outcome : Answer → Type 0) (good done sound : Type 0) (left : Cause → Type 0) (run : Run) → Came outcome run
+    → ((answer : Answer) → outcome answer → Judged due good sound left answer) → (good → Wrote due run → done) → Judges done sound left run
+judges due outcome good done sound left run came expect publish = judges_by due outcome good done sound left run.before run.written expect publish run.counts run.counts_after run.cause came
 
-pub judged_pass : (good sound too_fine : Type 0) (answer : Answer) → answer ≡ text pass_text → good → Judged good sound too_fine answer
-judged_pass good sound too_fine answer is h = subst (Judged good sound too_fine) (sym is) (refl, h)
+module _ (due : List ℕ) (good sound : Type 0) (left : Cause → Type 0) (answer : Answer) where
+  pub judged_done : answer ≡ text due → good → Judged due good sound left answer
+  judged_done is h = subst (Judged due good sound left) (sym is) (refl, h)
 
-pub judged_fault : (good sound too_fine : Type 0) (fault : Fault) (answer : Answer) → answer ≡ refuse (causes.AuditFailed fault) → (sound → ⊥) → Judged good sound too_fine answer
-judged_fault good sound too_fine fault answer is h = subst (Judged good sound too_fine) (sym is) h
+  pub judged_fault : (fault : Fault) → answer ≡ refuse (causes.AuditFailed fault) → (sound → ⊥) → Judged due good sound left answer
+  judged_fault fault is h = subst (Judged due good sound left) (sym is) h
 
-pub judged_fine : (good sound too_fine : Type 0) (denominator : ℕ) (answer : Answer) → answer ≡ refuse (causes.TooFine denominator) → too_fine → Judged good sound too_fine answer
-judged_fine good sound too_fine denominator answer is h = subst (Judged good sound too_fine) (sym is) h
+  pub judged_fine : (denominator : ℕ) → answer ≡ refuse (causes.TooFine denominator) → left (causes.TooFine denominator) → Judged due good sound left answer
+  judged_fine denominator is h = subst (Judged due good sound left) (sym is) h
+
+  pub judged_over : (sets cells : ℕ) → answer ≡ refuse (causes.OverGuard sets cells) → left (causes.OverGuard sets cells) → Judged due good sound left answer
+  judged_over sets cells is h = subst (Judged due good sound left) (sym is) h

@@ -1,7 +1,7 @@
 -- `audit`: what it answers, and its sentence of the headline.
 use Rattle.std.specs.Prelude.{◌≡◌, ◌≤◌, ℕ, List, [], Option, Some, Result, Ok, Err, length, unwrap_or}
 use Rattle.std.specs.Option.{option_or}
-use Rattle.alloc_audits.specs.Verdicts.{Judges, Passed, audit_cause, pass_text}
+use Rattle.alloc_audits.specs.Verdicts.{Judges, LeavesNone, Passed, audit_cause, pass_text}
 use Rattle.alloc_outcomes.specs.Answers.{Answer, Gives, IsText}
 use Rattle.alloc_outcomes.specs.Causes.{input_cause, lottery_cause, trees_cause}
 use Rattle.alloc_outcomes.specs.Limits.{file_limit}
@@ -23,28 +23,41 @@ use Rattle.lottery_laws.specs.Sound.{IsSound, MeetsProblem}
 abbrev pub prices_of : LotteryValue → PricesValue
 prices_of l = unwrap_or l.prices (record { price = []; worth = [] })
 
+-- the first check of shape or of prices that fails
+abbrev pub certified_fault : ProblemValue → LotteryValue → Option Fault
+certified_fault p l =
+    option_or (first_shape_fault p l.agents l.columns l.lists (length (prices_of l).price))
+    (first_price_fault p l.shares (prices_of l))
+
 -- the first check of shape, of prices or of pieces that fails; pieces are checked over the family of the problem, which
 -- has the agents' rows
 abbrev pub audit_fault : ProblemValue → LotteryValue → Option Fault
-audit_fault p l =
-    option_or (first_shape_fault p l.agents l.columns l.lists (length (prices_of l).price))
-    (option_or (first_price_fault p l.shares (prices_of l))
-    (first_piece_fault p.family l.shares l.pieces))
+audit_fault p l = option_or (certified_fault p l) (first_piece_fault p.family l.shares l.pieces)
+
+-- this is the first check that fails
+pub record IsFirstFault (p : ProblemValue) (l : LotteryValue) (fault : Fault) : Type 0 where
+  pub is : audit_fault p l ≡ Some fault
 
 -- the lottery is sound for the problem, or this is the first check that fails
 abbrev pub IsSoundOrFails : ProblemValue → LotteryValue → Result (Unit {0}) Fault → Type 0
 IsSoundOrFails p l (Ok _) = IsSound p l
-IsSoundOrFails p l (Err fault) = audit_fault p l ≡ Some fault
+IsSoundOrFails p l (Err fault) = IsFirstFault p l fault
 
--- `audit PREFS QUOTAS LOTTERY`: what the first two texts read as decides, then the least pair of
--- sets that cross, then what the lottery reads as, and then the first check that fails
-abbrev pub AuditAnswers : List ℕ → List ℕ → List ℕ → Answer → Type 0
-AuditAnswers prefs quotas bytes =
+-- an audit of a lottery, and then this text of the problem and the lottery: what the first two texts
+-- read as decides, then the least pair of sets that cross, then what the lottery reads as, and then
+-- the first check that fails
+abbrev pub AuditedAnswers : (ProblemValue → LotteryValue → List ℕ) → List ℕ → List ℕ → List ℕ
+    → Answer → Type 0
+AuditedAnswers due prefs quotas bytes =
     Gives input_cause (ProblemTextReads prefs quotas) (λ p.
     Gives trees_cause (CrossesOrTrees p.family) (λ _.
     Gives lottery_cause (LotteryReads bytes) (λ l.
     Gives audit_cause (IsSoundOrFails p l) (λ _.
-    IsText pass_text))))
+    IsText (due p l)))))
+
+-- `audit PREFS QUOTAS LOTTERY`: an audit, and then `pass`
+abbrev pub AuditAnswers : List ℕ → List ℕ → List ℕ → Answer → Type 0
+AuditAnswers = AuditedAnswers (λ _ _. pass_text)
 
 -- ---- the sentence of the headline
 
@@ -70,7 +83,7 @@ pub record PassesAudit (p : ProblemValue) (l : LotteryValue) (run : Run) : Type 
 abbrev pub AuditSays : (prefs quotas bytes : List ℕ) → Run → Type 0
 AuditSays prefs quotas bytes run =
     (p : ProblemValue) (l : LotteryValue) → AreAudited prefs quotas bytes p l
-    → Judges (PassesAudit p l run) (IsSound p l) ⊥ run
+    → Judges (PassesAudit p l run) (IsSound p l) LeavesNone run
 
 -- what `audit` means
 abbrev pub audit_meaning : ThreeMeaning

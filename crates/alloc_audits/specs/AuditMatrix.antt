@@ -2,7 +2,7 @@
 use Rattle.std.specs.Prelude.{◌≡◌, ◌≤◌, ℕ, List, Option, Some, Result, Ok, Err, length}
 use Rattle.std.specs.Option.{option_or}
 use Rattle.alloc_audits.specs.NameFaults.{first_name_fault}
-use Rattle.alloc_audits.specs.Verdicts.{Judges, Passed, audit_cause, pass_text}
+use Rattle.alloc_audits.specs.Verdicts.{Judges, LeavesTooFine, Passed, audit_cause, pass_text}
 use Rattle.alloc_outcomes.specs.Answers.{Answer, Gives, IsText}
 use Rattle.alloc_outcomes.specs.Causes.{infeasible_cause, input_cause, lottery_cause, scale_cause, trees_cause}
 use Rattle.alloc_outcomes.specs.Limits.{file_limit}
@@ -77,7 +77,7 @@ abbrev pub AuditMatrixSays : (matrix quotas bytes : List ℕ) → Run → Type 0
 AuditMatrixSays matrix quotas bytes run =
     (given : SharesValue) (f : FamilyValue) (l : LotteryValue)
     → IsSplitAudited matrix quotas bytes given f l
-    → Judges (PassesSplitAudit given f l run) (Splits given f l) (IsTooFine given) run
+    → Judges (PassesSplitAudit given f l run) (Splits given f l) (LeavesTooFine (IsTooFine given)) run
 
 -- what `audit-matrix` means
 abbrev pub audit_matrix_meaning : ThreeMeaning

@@ -26,20 +26,38 @@ abbrev pub result_at : Option Fault → Result (Unit {0}) Fault
 result_at None = Ok tt
 result_at (Some fault) = Err fault
 
--- `pass` was appended
+-- no check of these fails, or this is the first that does
+abbrev pub PassesOrFails : Option Fault → Result (Unit {0}) Fault → Type 0
+PassesOrFails first result = result ≡ result_at first
+
+-- this text was appended, and `pass`
+abbrev pub Wrote : List ℕ → Run → Type 0
+Wrote due run = run.written ≡ Some (run.before ++ due)
+
 abbrev pub Passed : Run → Type 0
-Passed run = run.written ≡ Some (run.before ++ pass_text)
+Passed run = Wrote pass_text run
 
--- Done as it is said; or a check failed, and the lottery isn't sound; or a denominator passes its limit, a load or a write
--- failed, or memory was refused
-abbrev pub JudgesBy : (done sound too_fine : Type 0) → (old new : Counts) → Cause → Type 0
-JudgesBy done sound too_fine old new causes.Done = done
-JudgesBy done sound too_fine old new (causes.AuditFailed fault) = sound → ⊥
-JudgesBy done sound too_fine old new (causes.TooFine denominator) = too_fine
-JudgesBy done sound too_fine old new (causes.ReadFault file) = Rose old.files new.files
-JudgesBy done sound too_fine old new causes.WriteFault = Rose old.out new.out
-JudgesBy done sound too_fine old new causes.NoMemory = Unit {0}
-JudgesBy done sound too_fine old new _ = ⊥
+-- the other causes that a sentence leaves: none, too fine a denominator, or too many sets for the guard
+abbrev pub LeavesNone : Cause → Type 0
+LeavesNone _ = ⊥
 
-abbrev pub Judges : (done sound too_fine : Type 0) → Run → Type 0
-Judges done sound too_fine run = JudgesBy done sound too_fine run.counts run.counts_after run.cause
+abbrev pub LeavesTooFine : Type 0 → Cause → Type 0
+LeavesTooFine too_fine (causes.TooFine denominator) = too_fine
+LeavesTooFine too_fine _ = ⊥
+
+abbrev pub LeavesOverGuard : (ℕ → ℕ → Type 0) → Cause → Type 0
+LeavesOverGuard over (causes.OverGuard sets cells) = over sets cells
+LeavesOverGuard over _ = ⊥
+
+-- Done as it is said; or a check failed, and the lottery isn't sound; or a load or a write failed, or memory was refused; or
+-- one of the causes that are left
+abbrev pub JudgesBy : (done sound : Type 0) → (left : Cause → Type 0) → (old new : Counts) → Cause → Type 0
+JudgesBy done sound left old new causes.Done = done
+JudgesBy done sound left old new (causes.AuditFailed fault) = sound → ⊥
+JudgesBy done sound left old new (causes.ReadFault file) = Rose old.files new.files
+JudgesBy done sound left old new causes.WriteFault = Rose old.out new.out
+JudgesBy done sound left old new causes.NoMemory = Unit {0}
+JudgesBy done sound left old new cause = left cause
+
+abbrev pub Judges : (done sound : Type 0) → (left : Cause → Type 0) → Run → Type 0
+Judges done sound left run = JudgesBy done sound left run.counts run.counts_after run.cause

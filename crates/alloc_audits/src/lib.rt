@@ -9,7 +9,9 @@
 #![tactic(auto)]
 
 pub mod audit;
+pub mod audit_guarded;
 pub mod audit_matrix;
+pub mod envy;
 mod laws;
 mod names;
 mod verdicts;

@@ -17,7 +17,9 @@ use Rattle.alloc_cli.specs.declared.words.ThreeFiles.TheVariants as three
 use Rattle.alloc_cli.specs.declared.words.TwoFiles.{TwoFiles}
 use Rattle.alloc_cli.specs.declared.words.TwoFiles.TheVariants as two
 use Rattle.alloc_audits.proofs.AuditLemmas.{audit_meant}
+use Rattle.alloc_audits.proofs.AuditGuardedLemmas.{audit_guarded_meant}
 use Rattle.alloc_audits.proofs.AuditMatrixLemmas.{audit_matrix_meant}
+use Rattle.alloc_audits.proofs.EnvyLemmas.{envy_meant}
 use Rattle.alloc_draws.proofs.DrawLemmas.{draw_meant}
 use Rattle.alloc_draws.proofs.PactCommitLemmas.{pact_commit_meant}
 use Rattle.alloc_draws.proofs.PactDrawLemmas.{pact_draw_meant}
@@ -32,10 +34,13 @@ use Rattle.alloc_outcomes.proofs.AnswersLemmas.{on_none_alone, on_one_alone, on_
 use Rattle.alloc_outcomes.proofs.MeaningsLemmas.{AreShort, IsMeantOfNone, IsMeantOfOne, IsMeantOfThree, IsMeantOfTwo, none_says, one_says, three_says, two_says}
 use Rattle.alloc_outcomes.proofs.SentencesLemmas.{Came}
 use Rattle.alloc_outcomes.proofs.StepsLemmas.{refused_step}
+use Rattle.alloc_steps.proofs.DecomposeFreeLemmas.{decompose_free_meant}
 use Rattle.alloc_steps.proofs.DecomposeLemmas.{decompose_meant}
 use Rattle.alloc_steps.proofs.GenerateLemmas.{generate_meant}
+use Rattle.alloc_steps.proofs.SolveGuardedLemmas.{solve_guarded_meant}
 use Rattle.alloc_steps.proofs.SolveLemmas.{solve_meant}
 use Rattle.alloc_tables.proofs.SetsLemmas.{sets_meant}
+use Rattle.alloc_tables.proofs.SidesLemmas.{sides_meant}
 use Rattle.alloc_tables.proofs.TableLemmas.{table_meant}
 
 -- where the files are short enough, the command answers
@@ -86,13 +91,18 @@ pub two_meant : (command : TwoFiles) → IsMeantOfTwo (meaning_of_two command)
 two_meant two.Sets = sets_meant
 two_meant two.Table = table_meant
 two_meant two.Decompose = decompose_meant
+two_meant two.Sides = sides_meant
+two_meant two.DecomposeFree = decompose_free_meant
 two_meant two.Solve = solve_meant
 two_meant two.PactDraw = pact_draw_meant
+two_meant two.SolveGuarded = solve_guarded_meant
 
 -- a line for each command on three files
 pub three_meant : (command : ThreeFiles) → IsMeantOfThree (meaning_of_three command)
 three_meant three.Audit = audit_meant
 three_meant three.AuditMatrix = audit_matrix_meant
+three_meant three.Envy = envy_meant
+three_meant three.AuditGuarded = audit_guarded_meant
 
 answers_alone : (command : Command) (given : List (List ℕ)) → RefusesAlone (Answers command given)
 answers_alone (commands.Zero command) given = on_none_alone (none_meant command).alone given

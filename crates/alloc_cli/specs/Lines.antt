@@ -38,10 +38,14 @@ line_of (causes.Pact fault) =
     ∷ decimal (pact_kind_number fault.kind) ∷ codes "\n" ∷ [])
 line_of (causes.Crossing first second) =
     joined (codes "crossing: sets " ∷ decimal first ∷ codes " " ∷ decimal second ∷ codes "\n" ∷ [])
+line_of causes.NoSides = codes "no sides\n"
 line_of (causes.Infeasible set sum) =
     joined (codes "infeasible: set " ∷ decimal set ∷ codes " sum " ∷ decimal sum ∷ codes "\n" ∷ [])
 line_of (causes.TooFine denominator) =
     joined (codes "too fine: " ∷ decimal denominator ∷ codes "\n" ∷ [])
+line_of (causes.OverGuard sets cells) =
+    joined (codes "over guard: sets " ∷ decimal sets ∷ codes " cells " ∷ decimal cells ∷ codes "\n"
+    ∷ [])
 line_of (causes.OverTotal agent column) =
     joined (codes "over total: agent " ∷ decimal agent ∷ codes " column " ∷ decimal column
     ∷ codes "\n" ∷ [])

@@ -14,7 +14,9 @@ use Rattle.alloc_cli.specs.declared.words.ThreeFiles.TheVariants as three
 use Rattle.alloc_cli.specs.declared.words.TwoFiles.{TwoFiles}
 use Rattle.alloc_cli.specs.declared.words.TwoFiles.TheVariants as two
 use Rattle.alloc_audits.specs.Audit.{audit_meaning}
+use Rattle.alloc_audits.specs.AuditGuarded.{audit_guarded_meaning}
 use Rattle.alloc_audits.specs.AuditMatrix.{audit_matrix_meaning}
+use Rattle.alloc_audits.specs.Envy.{envy_meaning}
 use Rattle.alloc_draws.specs.Draw.{draw_meaning}
 use Rattle.alloc_draws.specs.PactCommit.{pact_commit_meaning}
 use Rattle.alloc_draws.specs.PactDraw.{pact_draw_meaning}
@@ -28,9 +30,12 @@ use Rattle.alloc_outcomes.specs.Sentences.{Run}
 use Rattle.alloc_outcomes.specs.declared.cause.Cause.{Cause}
 use Rattle.alloc_outcomes.specs.declared.cause.Cause.TheVariants as causes
 use Rattle.alloc_steps.specs.Decompose.{decompose_meaning}
+use Rattle.alloc_steps.specs.DecomposeFree.{decompose_free_meaning}
 use Rattle.alloc_steps.specs.Generate.{generate_meaning}
 use Rattle.alloc_steps.specs.Solve.{solve_meaning}
+use Rattle.alloc_steps.specs.SolveGuarded.{solve_guarded_meaning}
 use Rattle.alloc_tables.specs.Sets.{sets_meaning}
+use Rattle.alloc_tables.specs.Sides.{sides_meaning}
 use Rattle.alloc_tables.specs.Table.{table_meaning}
 
 -- what a command on no file means: a line for each
@@ -50,13 +55,18 @@ abbrev pub meaning_of_two : TwoFiles → TwoMeaning
 meaning_of_two two.Sets = sets_meaning
 meaning_of_two two.Table = table_meaning
 meaning_of_two two.Decompose = decompose_meaning
+meaning_of_two two.Sides = sides_meaning
+meaning_of_two two.DecomposeFree = decompose_free_meaning
 meaning_of_two two.Solve = solve_meaning
 meaning_of_two two.PactDraw = pact_draw_meaning
+meaning_of_two two.SolveGuarded = solve_guarded_meaning
 
 -- what a command on three files means: a line for each
 abbrev pub meaning_of_three : ThreeFiles → ThreeMeaning
 meaning_of_three three.Audit = audit_meaning
 meaning_of_three three.AuditMatrix = audit_matrix_meaning
+meaning_of_three three.Envy = envy_meaning
+meaning_of_three three.AuditGuarded = audit_guarded_meaning
 
 -- what a command answers once its files are short enough
 abbrev pub Answers : Command → List (List ℕ) → Answer → Type 0

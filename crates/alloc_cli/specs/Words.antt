@@ -61,8 +61,11 @@ two_of name =
     if bytes_eq name (codes "sets") then Some two.Sets
     else if bytes_eq name (codes "table") then Some two.Table
     else if bytes_eq name (codes "decompose") then Some two.Decompose
+    else if bytes_eq name (codes "sides") then Some two.Sides
+    else if bytes_eq name (codes "decompose-free") then Some two.DecomposeFree
     else if bytes_eq name (codes "solve") then Some two.Solve
     else if bytes_eq name (codes "pact-draw") then Some two.PactDraw
+    else if bytes_eq name (codes "solve-guarded") then Some two.SolveGuarded
     else None
 
 -- the command on three files of this name
@@ -70,6 +73,8 @@ abbrev pub three_of : (name : List ℕ) → Option ThreeFiles
 three_of name =
     if bytes_eq name (codes "audit") then Some three.Audit
     else if bytes_eq name (codes "audit-matrix") then Some three.AuditMatrix
+    else if bytes_eq name (codes "envy") then Some three.Envy
+    else if bytes_eq name (codes "audit-guarded") then Some three.AuditGuarded
     else None
 
 -- the command of this name and one more word

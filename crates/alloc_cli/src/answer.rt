@@ -9,11 +9,11 @@ ghost use Rattle.alloc_outcomes.specs.Steps.{OutCounts, ShortCounts, Steps};
 
 use crate::load::{FILE_LIMIT, load_all};
 use crate::words::{Command, NoFile, OneFile, ThreeFiles, TwoFiles};
-use alloc_audits::{audit, audit_matrix};
+use alloc_audits::{audit, audit_guarded, audit_matrix, envy};
 use alloc_draws::{draw, pact_commit, pact_draw, pick, report};
 use alloc_outcomes::Cause;
-use alloc_steps::{decompose, generate, solve};
-use alloc_tables::{sets, table};
+use alloc_steps::{decompose, decompose_free, generate, solve, solve_guarded};
+use alloc_tables::{sets, sides, table};
 use device_core::{Files, Sink};
 use std::alloc::Global;
 
@@ -79,8 +79,11 @@ fn step_two<K: Sink>(
         TwoFiles::Sets => sets::step(alloc, first, second, out),
         TwoFiles::Table => table::step(alloc, first, second, out),
         TwoFiles::Decompose => decompose::step(alloc, first, second, out),
+        TwoFiles::Sides => sides::step(alloc, first, second, out),
+        TwoFiles::DecomposeFree => decompose_free::step(alloc, first, second, out),
         TwoFiles::Solve => solve::step(alloc, first, second, out),
         TwoFiles::PactDraw => pact_draw::step(alloc, first, second, out),
+        TwoFiles::SolveGuarded => solve_guarded::step(alloc, first, second, out),
     }
 }
 
@@ -100,6 +103,8 @@ fn step_three<K: Sink>(
     match command {
         ThreeFiles::Audit => audit::step(alloc, first, second, third, out),
         ThreeFiles::AuditMatrix => audit_matrix::step(alloc, first, second, third, out),
+        ThreeFiles::Envy => envy::step(alloc, first, second, third, out),
+        ThreeFiles::AuditGuarded => audit_guarded::step(alloc, first, second, third, out),
     }
 }
 

@@ -27,8 +27,10 @@ fn status(cause: Cause) -> u8
         | Cause::Lottery(_)
         | Cause::Pact(_)
         | Cause::Crossing { .. }
+        | Cause::NoSides
         | Cause::Infeasible { .. }
         | Cause::OverTotal { .. }
+        | Cause::OverGuard { .. }
         | Cause::TicketOutOfRange { .. } => 3,
         Cause::ReadFault { .. } | Cause::WriteFault => 4,
         Cause::TooFine { .. } | Cause::NoTicket => 5,

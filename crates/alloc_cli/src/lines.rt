@@ -115,10 +115,14 @@ pub fn write_line<E: Sink>(cause: Cause, err: &mut E) -> Result<(), SinkFault>
         Cause::Crossing { first, second } => {
             write_two("crossing: sets ", U32(first), " ", U32(second), err)
         }
+        Cause::NoSides => write_parts(&[Text("no sides\n")], err),
         Cause::Infeasible { set, sum } => {
             write_two("infeasible: set ", U32(set), " sum ", U128(sum), err)
         }
         Cause::TooFine { denominator } => write_one("too fine: ", U128(denominator), err),
+        Cause::OverGuard { sets, cells } => {
+            write_two("over guard: sets ", U64(sets), " cells ", U64(cells), err)
+        }
         Cause::OverTotal { agent, column } => {
             write_two(
                 "over total: agent ",

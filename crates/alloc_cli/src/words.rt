@@ -42,10 +42,16 @@ pub enum TwoFiles {
     Table,
     /// `decompose MATRIX QUOTAS`
     Decompose,
+    /// `sides MATRIX QUOTAS`
+    Sides,
+    /// `decompose-free MATRIX QUOTAS`
+    DecomposeFree,
     /// `solve PREFS QUOTAS`
     Solve,
     /// `pact-draw LOTTERY PACT`
     PactDraw,
+    /// `solve-guarded PREFS QUOTAS`
+    SolveGuarded,
 }
 
 /// A command on three files.
@@ -55,6 +61,10 @@ pub enum ThreeFiles {
     Audit,
     /// `audit-matrix MATRIX QUOTAS LOTTERY`
     AuditMatrix,
+    /// `envy PREFS QUOTAS LOTTERY`
+    Envy,
+    /// `audit-guarded PREFS QUOTAS LOTTERY`
+    AuditGuarded,
 }
 
 /// What the words ask for. The files of a command are the words after its name, in order.
@@ -171,8 +181,11 @@ fn parse_two(name: &str) -> Option<TwoFiles>
         "sets" => Some(TwoFiles::Sets),
         "table" => Some(TwoFiles::Table),
         "decompose" => Some(TwoFiles::Decompose),
+        "sides" => Some(TwoFiles::Sides),
+        "decompose-free" => Some(TwoFiles::DecomposeFree),
         "solve" => Some(TwoFiles::Solve),
         "pact-draw" => Some(TwoFiles::PactDraw),
+        "solve-guarded" => Some(TwoFiles::SolveGuarded),
         _ => None,
     }
 }
@@ -184,6 +197,8 @@ fn parse_three(name: &str) -> Option<ThreeFiles>
     match name {
         "audit" => Some(ThreeFiles::Audit),
         "audit-matrix" => Some(ThreeFiles::AuditMatrix),
+        "envy" => Some(ThreeFiles::Envy),
+        "audit-guarded" => Some(ThreeFiles::AuditGuarded),
         _ => None,
     }
 }

@@ -48,6 +48,10 @@ pact_cause fault = causes.Pact fault
 abbrev pub infeasible_cause : Infeasible → Cause
 infeasible_cause first = causes.Infeasible first.set first.sum
 
+-- of sets that cross in an odd ring
+abbrev pub no_sides_cause : Unit {0} → Cause
+no_sides_cause _ = causes.NoSides
+
 -- of a denominator
 abbrev pub too_fine_cause : ℕ → Cause
 too_fine_cause denominator = causes.TooFine denominator

@@ -26,10 +26,14 @@ pub enum Cause {
     Pact(PactFault),
     /// Two sets of one side cross.
     Crossing { first: u32, second: u32 },
+    /// Sets cross in an odd ring, so that no choice of sides keeps them apart.
+    NoSides,
     /// The sum of a set, in units of the denominator, lies outside its quotas.
     Infeasible { set: u32, sum: u128 },
     /// A denominator is above 2^116.
     TooFine { denominator: u128 },
+    /// The guarded family would have more than 2,000 sets, or more than 1,201,000 cells in all.
+    OverGuard { sets: u64, cells: u64 },
     /// The entries of a matrix up to this one add up to more than 1,000.
     OverTotal { agent: u32, column: u32 },
     /// A ticket is not below the denominator.

@@ -9,6 +9,7 @@ use lottery_file::LotteryRefusal;
 use quota_sets::Infeasible;
 use scaled_matrix::ScaleFault;
 use seed_pact::PactRefusal;
+use side_finder::SideFault;
 use std::alloc::AllocFailed;
 
 impl From<table_text::NoMemory> for Cause {
@@ -30,6 +31,19 @@ impl From<quota_sets::NoMemory> for Cause {
 
     fn from(_: quota_sets::NoMemory) -> Cause {
         Cause::NoMemory
+    }
+}
+
+impl From<SideFault> for Cause {
+    ghost use Rattle.std.specs.Prelude.{◌≡◌};
+    ghost use Rattle.alloc_outcomes.specs.declared.cause.Cause.TheVariants.{NoMemory};
+
+    ghost from_gives = { λ _ cause. cause ≡ NoMemory };
+
+    fn from(fault: SideFault) -> Cause {
+        match fault {
+            SideFault::NoMemory => Cause::NoMemory,
+        }
     }
 }
 

@@ -1,5 +1,6 @@
 pub mod EatenLemmas
 pub mod FamilyLemmas
+pub mod GuardedLemmas
 pub mod LotteryLemmas
 pub mod ProblemLemmas
 pub mod QuotasLemmas

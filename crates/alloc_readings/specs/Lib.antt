@@ -1,5 +1,6 @@
 pub mod Eaten
 pub mod Family
+pub mod Guarded
 pub mod Lottery
 pub mod Problem
 pub mod Quotas

@@ -19,6 +19,7 @@
 
 mod eaten;
 mod family;
+mod guarded;
 mod lottery;
 mod problem;
 mod quotas;
@@ -27,6 +28,7 @@ mod trees;
 
 pub use eaten::eaten_from;
 pub use family::family_from;
+pub use guarded::guarded_from;
 pub use lottery::lottery_from;
 pub use problem::problem_from;
 pub use quotas::check_quotas;

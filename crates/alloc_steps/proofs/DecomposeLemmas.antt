@@ -9,14 +9,14 @@ use Rattle.alloc_outcomes.proofs.MeaningsLemmas.{IsMeantOfTwo}
 use Rattle.alloc_outcomes.proofs.SentencesLemmas.{Expected, expected_text, expected_refusal, keeps}
 use Rattle.alloc_readings.specs.Family.{QuotasTextReads}
 use Rattle.alloc_readings.specs.Quotas.{MeetsOrNot}
-use Rattle.alloc_readings.specs.Shares.{ScalesOrNot}
+use Rattle.alloc_readings.specs.Shares.{MatrixTextReads, ScalesOrNot}
 use Rattle.alloc_readings.specs.Splittable.{IsSplittable}
 use Rattle.alloc_readings.specs.Trees.{CrossesOrTrees}
 use Rattle.alloc_readings.proofs.FamilyLemmas.{family_known, one_family}
 use Rattle.alloc_readings.proofs.QuotasLemmas.{not_feasible, one_meeting}
 use Rattle.alloc_readings.proofs.SharesLemmas.{one_matrix, one_scale}
 use Rattle.alloc_readings.proofs.TreesLemmas.{apart_has_no_pair, trees_alone}
-use Rattle.alloc_steps.specs.Decompose.{decompose_meaning, DecomposeAnswers}
+use Rattle.alloc_steps.specs.Decompose.{decompose_meaning, AfterQuotas, DecomposeAnswers, SplitAnswers}
 use Rattle.alloc_steps.specs.Publishing.{IsLotteryText, Published}
 use Rattle.lottery_laws.specs.SplitsWell.{SplitsWell}
 use Rattle.lottery_laws.proofs.SplitsWellLemmas.{well_of}
@@ -36,20 +36,27 @@ use Rattle.scaled_matrix.specs.declared.scaling.ScaleFault.TheVariants as scalin
 
 -- ---- one answer
 
-split_alone : (given : SharesValue) (x : ScaledValue) (f : FamilyValue) → RefusesAlone (Gives infeasible_cause (MeetsOrNot f x) (λ _. HasText (IsLotteryText (Splits given f))))
+-- where the rest of a command that reads a matrix and quotas has one answer, so has the command
+pub after_quotas_alone : {rest : SharesValue → ScaledValue → FamilyValue → Answer → Type 0} (matrix quotas : List ℕ)
+    → ((given : SharesValue) (x : ScaledValue) (f : FamilyValue) → QuotasTextReads given quotas (Ok f) → RefusesAlone (rest given x f))
+    → RefusesAlone (AfterQuotas matrix quotas rest)
+after_quotas_alone matrix quotas alone =
+    gives_alone (one_matrix matrix) (λ given read.
+    gives_alone (one_scale given read.1.shares) (λ x scaled.
+    gives_alone (one_family given quotas) (λ f stated. alone given x f stated)))
+
+pub split_alone : (given : SharesValue) (x : ScaledValue) (f : FamilyValue) → RefusesAlone (Gives infeasible_cause (MeetsOrNot f x) (λ _. HasText (IsLotteryText (Splits given f))))
 split_alone given x f = gives_alone (one_meeting f x) (λ u meets due answer h k. absurd h)
 
 decompose_alone : (matrix quotas : List ℕ) → RefusesAlone (DecomposeAnswers matrix quotas)
 decompose_alone matrix quotas =
-    gives_alone (one_matrix matrix) (λ given read.
-    gives_alone (one_scale given read.1.shares) (λ x scaled.
-    gives_alone (one_family given quotas) (λ f stated.
-    trees_alone f (family_known given quotas f stated) _ (λ t u due answer h k. split_alone given x f due answer h k))))
+    after_quotas_alone matrix quotas (λ given x f stated.
+    trees_alone f (family_known given quotas f stated) _ (λ t u due answer h k. split_alone given x f due answer h k))
 
 -- ---- the sentence of the headline
 
 module _ (given : SharesValue) (f : FamilyValue) where
-  abbrev AsSplit : Answer → Type 0
+  abbrev pub AsSplit : Answer → Type 0
   AsSplit = HasText (IsLotteryText (Splits given f))
 
   meets_end : (x : ScaledValue) (answer : Answer) (r : Result (Unit {0}) Infeasible) → IsFeasible f x → MeetsOrNot f x r
@@ -57,37 +64,49 @@ module _ (given : SharesValue) (f : FamilyValue) where
   meets_end x answer (Ok u) feasible m h = h
   meets_end x answer (Err first) feasible m h = absurd (not_feasible f x first.set first.sum m feasible)
 
+  -- shares that meet the quotas are split
+  pub met_end : (x : ScaledValue) (answer : Answer) → IsFeasible f x → Gives infeasible_cause (MeetsOrNot f x) (λ _. AsSplit) answer → AsSplit answer
+  met_end x answer feasible h = meets_end x answer h.found feasible h.holds h.follows
+
   trees_end : (x : ScaledValue) (answer : Answer) (r : Result TreesValue TreesFault) → All IsKnownSide f.sets → IsBihierarchy f → IsFeasible f x → CrossesOrTrees f r
       → Follows trees_cause (λ _. Gives infeasible_cause (MeetsOrNot f x) (λ _. AsSplit)) r answer → AsSplit answer
-  trees_end x answer (Ok t) known apart feasible m h = meets_end x answer h.found feasible h.holds h.follows
+  trees_end x answer (Ok t) known apart feasible m h = met_end x answer feasible h
   trees_end x answer (Err (trees.Crossing a b)) known apart feasible m h = absurd (apart_has_no_pair f known a b apart m)
   trees_end x answer (Err trees.NoMemory) known apart feasible m h = absurd m
 
-  scale_end : (quotas : List ℕ) (answer : Answer) (r : Result ScaledValue ScaleFault) → IsShares given → QuotasTextReads given quotas (Ok f) → IsBihierarchy f
-      → (IsOverTotal given → ⊥) → ((x : ScaledValue) → IsScaled given x → IsScaledMatrix x → IsFeasible f x) → ScalesOrNot given r
-      → Follows scale_cause (λ x. Gives input_cause (QuotasTextReads given quotas) (λ g. Gives trees_cause (CrossesOrTrees g) (λ _. Gives infeasible_cause (MeetsOrNot g x) (λ _. HasText (IsLotteryText (Splits given g)))))) r answer
-      → Expected (IsLotteryText (Splits given f)) (λ _. IsTooFine given) answer
-  scale_end quotas answer (Err (scaling.TooFine denominator agent column)) lawful q apart total feasible m h =
-      expected_refusal (IsLotteryText (Splits given f)) (λ _. IsTooFine given) denominator answer h (too_fine_from_entry given denominator agent column lawful m)
-  scale_end quotas answer (Err (scaling.OverTotal agent column)) lawful q apart total feasible m h = absurd (total (over_total_from_entry given agent column m))
-  scale_end quotas answer (Err scaling.NoMemory) lawful q apart total feasible m h = absurd m
-  scale_end quotas answer (Ok x) lawful q apart total feasible m h =
-      let k = passed (one_family given quotas) f q answer h in
-      expected_text (IsLotteryText (Splits given f)) (λ _. IsTooFine given) answer (trees_end x answer k.found (family_known given quotas f q) apart (feasible x m.0 m.1) k.holds k.follows)
+  -- the rest of a command that splits feasible shares
+  module _ (rest : SharesValue → ScaledValue → FamilyValue → Answer → Type 0) (ends : (x : ScaledValue) (answer : Answer) → IsFeasible f x → rest given x f answer → AsSplit answer) where
+    scale_end : (quotas : List ℕ) (answer : Answer) (r : Result ScaledValue ScaleFault) → IsShares given → QuotasTextReads given quotas (Ok f)
+        → (IsOverTotal given → ⊥) → ((x : ScaledValue) → IsScaled given x → IsScaledMatrix x → IsFeasible f x) → ScalesOrNot given r
+        → Follows scale_cause (λ x. Gives input_cause (QuotasTextReads given quotas) (λ g. rest given x g)) r answer
+        → Expected (IsLotteryText (Splits given f)) (λ _. IsTooFine given) answer
+    scale_end quotas answer (Err (scaling.TooFine denominator agent column)) lawful q total feasible m h =
+        expected_refusal (IsLotteryText (Splits given f)) (λ _. IsTooFine given) denominator answer h (too_fine_from_entry given denominator agent column lawful m)
+    scale_end quotas answer (Err (scaling.OverTotal agent column)) lawful q total feasible m h = absurd (total (over_total_from_entry given agent column m))
+    scale_end quotas answer (Err scaling.NoMemory) lawful q total feasible m h = absurd m
+    scale_end quotas answer (Ok x) lawful q total feasible m h =
+        expected_text (IsLotteryText (Splits given f)) (λ _. IsTooFine given) answer (ends x answer (feasible x m.0 m.1) (passed (one_family given quotas) f q answer h))
+
+    pub after_quotas_expected : (matrix quotas : List ℕ) (answer : Answer) → MatrixTextReads matrix (Ok given) → QuotasTextReads given quotas (Ok f)
+        → (IsOverTotal given → ⊥) → ((x : ScaledValue) → IsScaled given x → IsScaledMatrix x → IsFeasible f x) → AfterQuotas matrix quotas rest answer
+        → Expected (IsLotteryText (Splits given f)) (λ _. IsTooFine given) answer
+    after_quotas_expected matrix quotas answer read q total feasible h =
+        let k = passed (one_matrix matrix) given read answer h in
+        scale_end quotas answer k.found read.1.shares q total feasible k.holds k.follows
 
   decompose_expected : (matrix quotas : List ℕ) (answer : Answer) → IsSplittable matrix quotas given f → DecomposeAnswers matrix quotas answer
       → Expected (IsLotteryText (Splits given f)) (λ _. IsTooFine given) answer
   decompose_expected matrix quotas answer s h =
-      let k = passed (one_matrix matrix) given s.shares answer h in
-      scale_end quotas answer k.found s.shares.1.shares s.family s.apart s.total s.feasible k.holds k.follows
+      after_quotas_expected SplitAnswers (λ x end feasible k. trees_end x end k.found (family_known given quotas f s.family) s.apart feasible k.holds k.follows)
+      matrix quotas answer s.shares s.family s.total s.feasible h
 
-  -- the text of a lottery that splits the shares publishes it
-  decompose_published : (matrix quotas before t : List ℕ) (written : Option (List ℕ)) → IsSplittable matrix quotas given f → IsLotteryText (Splits given f) t → written ≡ Some (before ++ t)
-      → Published (SplitsWell given f) before written
-  decompose_published matrix quotas before t written s good did = record {
+  -- the text of a lottery that splits feasible shares publishes it
+  pub split_published : (before t : List ℕ) (written : Option (List ℕ)) → ((x : ScaledValue) → IsScaled given x → IsScaledMatrix x → IsFeasible f x)
+      → IsLotteryText (Splits given f) t → written ≡ Some (before ++ t) → Published (SplitsWell given f) before written
+  split_published before t written feasible good did = record {
     lottery = good.lottery;
     plain = good.plain;
-    has = well_of given f good.lottery good.has (s.feasible good.lottery.shares good.has.scaled good.has.lottery.shares);
+    has = well_of given f good.lottery good.has (feasible good.lottery.shares good.has.scaled good.has.lottery.shares);
     wrote = did ∙ ap (λ (bytes : List ℕ). Some (before ++ bytes)) good.is;
   }
 
@@ -98,5 +117,5 @@ decompose_meant = record {
   alone = decompose_alone;
   holds = λ matrix quotas run came given f s.
       keeps (DecomposeAnswers matrix quotas) (IsLotteryText (Splits given f)) (Published (SplitsWell given f) run.before run.written) (λ _. IsTooFine given) run (came s.short.0 s.short.1)
-      (λ answer k. decompose_expected given f matrix quotas answer s k) (λ t good did. decompose_published given f matrix quotas run.before t run.written s good did);
+      (λ answer k. decompose_expected given f matrix quotas answer s k) (λ t good did. split_published given f run.before t run.written s.feasible good did);
 }

@@ -3,7 +3,7 @@ use Rattle.std.proofs.Common.{◌≡◌, ◌∙◌, ℕ, List, [], ◌∷◌, �
 use Rattle.std.specs.Prelude.{codes}
 use Rattle.std.specs.List.{range_with_len}
 use Rattle.alloc_gen.specs.Made.{made_name, made_problem}
-use Rattle.alloc_outcomes.specs.Answers.{Answer, text, Follows, HasText, IsText, RefusesAlone}
+use Rattle.alloc_outcomes.specs.Answers.{Answer, Follows, HasText, IsText, RefusesAlone}
 use Rattle.alloc_outcomes.specs.Causes.{too_fine_cause}
 use Rattle.alloc_outcomes.proofs.AnswersLemmas.{gives_alone, IsPart}
 use Rattle.alloc_outcomes.proofs.MeaningsLemmas.{IsMeantOfNone}

@@ -11,6 +11,8 @@ use Rattle.eating_laws.proofs.Unique.{same_table}
 use Rattle.certificate_laws.proofs.RecipePrices.{same_recipe}
 use Rattle.eating.proofs.ManyMoments.{many_moments}
 use Rattle.eating.proofs.OneAnswer.{one_assignment}
+use Rattle.eating.specs.Answers.{IsEatenBy}
+use Rattle.eating.specs.Eaten.{EatenValue}
 use Rattle.alloc_steps.specs.Solutions.{FitsWithFew}
 
 -- a lottery by its parts
@@ -58,6 +60,15 @@ module _ (p : ProblemValue) (f g : FamilyValue) (l m : LotteryValue) (s : Solves
   one_but_pieces =
       same_but_pieces l m (t.agents ∙ sym s.agents) (t.columns ∙ sym s.columns) shares (t.lists ∙ sym s.lists)
       (t.priced ∙ ap Some prices ∙ sym s.priced)
+
+-- the shares of a lottery that solves a problem are what is eaten in it
+pub solution_eaten : (p : ProblemValue) (f : FamilyValue) (l : LotteryValue) (e : List ℕ) (v : EatenValue) → SolvesFor f p l → IsEatenBy p e v → l.shares ≡ v.shares
+solution_eaten p f l e v s eaten =
+    let table = same_table (market_of p) l.shares.denominator v.shares.denominator s.moments e s.table eaten.table s.lowest eaten.lowest in
+    one_assignment (column_count p) (market_of p) v.shares.denominator e l.shares v.shares
+    (subst (λ D. IsAssignmentOf (column_count p) (market_of p) D e l.shares) table.0
+    (subst (λ moments. IsAssignmentOf (column_count p) (market_of p) l.shares.denominator moments l.shares) table.1 s.rows))
+    eaten.shares
 
 -- with few moments, or few limits, no table is too fine
 pub fits_with_few : (p : ProblemValue) → IsProblem p → FitsWithFew p

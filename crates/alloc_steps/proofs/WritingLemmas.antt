@@ -1,11 +1,10 @@
 -- A step that ends with a writer of a lottery.
 use Rattle.std.proofs.Common.{◌≡◌, ap, inl, inr, refl, subst, sym, Result, Ok, Err}
 use Rattle.std.specs.Prelude.{IsErrAnd}
-use Rattle.alloc_outcomes.specs.Answers.{Answer, text, HasText}
+use Rattle.alloc_outcomes.specs.Answers.{Answer, refuse, text, HasText}
 use Rattle.alloc_outcomes.specs.Causes.{sink_cause}
 use Rattle.alloc_outcomes.specs.Steps.{Steps}
 use Rattle.alloc_outcomes.specs.declared.cause.Cause.{Cause}
-use Rattle.alloc_outcomes.specs.declared.cause.Cause.TheVariants as causes
 use Rattle.alloc_outcomes.proofs.AnswersLemmas.{IsPart}
 use Rattle.alloc_outcomes.proofs.StepsLemmas.{steps-unwritten}
 use Rattle.alloc_steps.specs.Publishing.{IsLotteryText}
@@ -16,6 +15,11 @@ use Rattle.device_core.specs.declared.faults.SinkFault.{SinkFault}
 use Rattle.device_core.specs.declared.faults.SinkFault.TheVariants as faults
 use Rattle.device_core.specs.declared.traits.Sink as Sink
 use Rattle.lottery_file.specs.Written.{lottery_text}
+
+-- what is allowed of lotteries with a property is allowed of those with a stronger one
+pub lottery_part : {property weaker : LotteryValue → Type 0} {outcome : Answer → Type 0} → ((l : LotteryValue) → property l → weaker l) → IsPart (HasText (IsLotteryText weaker)) outcome → IsPart (HasText (IsLotteryText property)) outcome
+lottery_part weaken part (text t) h = part (text t) (record { lottery = h.lottery; plain = h.plain; has = weaken h.lottery h.has; is = h.is })
+lottery_part weaken part (refuse cause) h = absurd h
 
 module _ {K : Type 0} (sink : Sink.Ghosts K) {property : LotteryValue → Type 0} {outcome : Answer → Type 0} (old new : K) (part : IsPart (HasText (IsLotteryText property)) outcome) where
   allowed : (l : LotteryValue) → IsLotteryText property (lottery_text l) → outcome (text (lottery_text l))

@@ -11,22 +11,32 @@ use Rattle.alloc_readings.specs.Splittable.{IsSplittable}
 use Rattle.alloc_readings.specs.Trees.{CrossesOrTrees}
 use Rattle.alloc_steps.specs.Publishing.{IsLotteryText, Published}
 use Rattle.definitions.specs.Lotteries.{Splits}
-use Rattle.definitions.specs.Sets.{FamilyValue}
+use Rattle.definitions.specs.Sets.{FamilyValue, ScaledValue}
 use Rattle.definitions.specs.Values.{SharesValue}
 use Rattle.lottery_laws.specs.SplitsWell.{SplitsWell}
 use Rattle.scaled_matrix.specs.Scaling.{IsTooFine}
 
--- `decompose MATRIX QUOTAS`: what the matrix reads as decides, then what its shares scale to, then
--- the quotas, then the least pair of sets that cross, and then the first set whose quotas the
--- shares break; after that nothing is refused
-abbrev pub DecomposeAnswers : List ℕ → List ℕ → Answer → Type 0
-DecomposeAnswers matrix quotas =
+-- once there is a family: the least pair of sets that cross decides, and then the first set whose
+-- quotas the shares break; after that nothing is refused
+abbrev pub SplitAnswers : SharesValue → ScaledValue → FamilyValue → Answer → Type 0
+SplitAnswers given x f =
+    Gives trees_cause (CrossesOrTrees f) (λ _.
+    Gives infeasible_cause (MeetsOrNot f x) (λ _.
+    HasText (IsLotteryText (Splits given f))))
+
+-- what the matrix reads as decides, then what its shares scale to, then the quotas, and then the
+-- rest of the command
+abbrev pub AfterQuotas : (matrix quotas : List ℕ)
+    → (SharesValue → ScaledValue → FamilyValue → Answer → Type 0) → Answer → Type 0
+AfterQuotas matrix quotas rest =
     Gives input_cause (MatrixTextReads matrix) (λ given.
     Gives scale_cause (ScalesOrNot given) (λ x.
     Gives input_cause (QuotasTextReads given quotas) (λ f.
-    Gives trees_cause (CrossesOrTrees f) (λ _.
-    Gives infeasible_cause (MeetsOrNot f x) (λ _.
-    HasText (IsLotteryText (Splits given f)))))))
+    rest given x f)))
+
+-- `decompose MATRIX QUOTAS`
+abbrev pub DecomposeAnswers : List ℕ → List ℕ → Answer → Type 0
+DecomposeAnswers matrix quotas = AfterQuotas matrix quotas SplitAnswers
 
 -- ---- the sentence of the headline
 

@@ -1,9 +1,11 @@
 pub mod Decompose
+pub mod DecomposeFree
 pub mod Filling
 pub mod Generate
 pub mod Publishing
 pub mod ReadsBack
 pub mod Solutions
 pub mod Solve
+pub mod SolveGuarded
 pub mod SolvesWell
 pub mod Writing

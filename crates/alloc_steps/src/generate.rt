@@ -3,19 +3,18 @@
 ghost use Rattle.std.specs.Prelude.{◌≡◌, false, IfOk};
 ghost use Rattle.alloc_outcomes.specs.Steps.{Steps};
 ghost use Rattle.alloc_steps.specs.Generate.{problem_of, GenerateAnswers, IsMakeable, SummaryAnswers};
-ghost use Rattle.definitions.specs.Sets.{IsBihierarchy, IsFamily};
+ghost use Rattle.definitions.specs.Sets.{IsBihierarchy};
 ghost use Rattle.definitions.specs.Texts.{has_name, null_name};
-ghost use Rattle.definitions.specs.Trees.{AreTreesOf};
 
+use crate::apart::trees_apart;
 use crate::gathered::gather;
 use alloc_gen::{GenFault, make};
 use alloc_outcomes::{Cause, write_text};
 use alloc_readings::eaten_from;
 use alloc_report::summary;
-use bihierarchy::{Trees, TreesFault};
 use device_core::Sink;
 use price_cert::certificate;
-use quota_sets::{Family, NoMemory, Problem};
+use quota_sets::{NoMemory, Problem};
 use std::alloc::Global;
 
 // The problem that the seed makes, of a size that can be made.
@@ -28,19 +27,6 @@ fn make_sized(alloc: Global, seed: [u8; 32], agents: u32, objects: u32) -> Resul
         Ok(problem) => Ok(problem),
         Err(GenFault::NoMemory) => Err(NoMemory),
         Err(GenFault::OverLimit) => unreachable!(),
-    }
-}
-
-// The trees of a family of which no two sets of one side cross.
-fn trees_apart(alloc: Global, family: &Family) -> Result<Trees, NoMemory>
-    requires lawful { IsFamily family.now }
-    requires apart { IsBihierarchy family.now }
-    ensures { IfOk result (AreTreesOf family.now) }
-{
-    match Trees::of(alloc, family) {
-        Ok(trees) => Ok(trees),
-        Err(TreesFault::NoMemory) => Err(NoMemory),
-        Err(TreesFault::Crossing { .. }) => unreachable!(),
     }
 }
 

@@ -11,7 +11,7 @@
 //! // A problem, what is eaten in it, and prices that certify this.
 //! let eaten = eat(alloc, &problem, &trees)?;
 //! let prices = certificate(alloc, &problem, &trees, &eaten)?;
-//! write_solution(alloc, &problem, &trees, &eaten, &prices, &mut out)?;
+//! write_solution(alloc, &problem, problem.family(), &trees, &eaten, &prices, &mut out)?;
 //!
 //! // The same with a peeler of one's own, as with lists and prices.
 //! let mut peeler = Peeler::new(alloc, &trees, &family, &x)?;
@@ -21,14 +21,17 @@
 //! ```
 #![tactic(auto)]
 
+mod apart;
 mod copies;
 mod counts;
 pub mod decompose;
+pub mod decompose_free;
 mod gathered;
 pub mod generate;
 mod laws;
 mod solution;
 pub mod solve;
+pub mod solve_guarded;
 mod split;
 mod written;
 

@@ -16,9 +16,10 @@ pub fn step<K: Sink>(alloc: Global, prefs: &[u8], quotas: &[u8], out: &mut K) ->
     ensures { Steps K.Sink (SolveAnswers prefs.now quotas.now) out.old out.new result }
 {
     let problem = problem_from(alloc, prefs, quotas)?;
-    let trees = trees_from(alloc, problem.family())?;
+    let family = problem.family();
+    let trees = trees_from(alloc, family)?;
     let eaten = eaten_from(alloc, &problem, &trees)?;
     let prices = certificate(alloc, &problem, &trees, &eaten)?;
-    write_solution(alloc, &problem, &trees, &eaten, &prices, out)?;
+    write_solution(alloc, &problem, family, &trees, &eaten, &prices, out)?;
     Ok(())
 }

@@ -1,3 +1,4 @@
 mod RowsLemmas
 pub mod SetsLemmas
+pub mod SidesLemmas
 pub mod TableLemmas

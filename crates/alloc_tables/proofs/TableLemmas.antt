@@ -1,6 +1,6 @@
 -- `table`: the text of a table by its parts, and that it has one answer.
-use Rattle.std.proofs.Common.{◌≡◌, ◌+◌, ◌-◌, ℕ, List, [], ◌∷◌, ◌++◌, map, length, sym, ◌∙◌, ap, append_assoc, arith}
-use Rattle.std.specs.Prelude.{codes, decimal, slice_index}
+use Rattle.std.proofs.Common.{◌≡◌, ◌+◌, ℕ, List, [], ◌∷◌, ◌++◌, map, length, sym, ◌∙◌, ap, append_assoc, arith}
+use Rattle.std.specs.Prelude.{codes, decimal}
 use Rattle.std.specs.List.{range_with_len}
 use Rattle.std.proofs.lemmas.List.{length-append, length-map, length-take-le}
 use Rattle.std.proofs.lemmas.List.FromFn.{map-range_with_len_more}
@@ -20,8 +20,8 @@ use Rattle.alloc_readings.specs.Eaten.{EatsOrTooFine}
 use Rattle.alloc_readings.proofs.EatenLemmas.{one_table}
 use Rattle.alloc_readings.proofs.ProblemLemmas.{one_problem, problem_known}
 use Rattle.alloc_readings.proofs.TreesLemmas.{trees_alone}
-use Rattle.alloc_tables.specs.Table.{agent_row, columns_row, eaten_text, head_rows, moment_row, moment_rows, table_meaning, table_rows, TableAnswers}
-use Rattle.alloc_tables.proofs.RowsLemmas.{rows-then, rows-more}
+use Rattle.alloc_tables.specs.Table.{agent_row, columns_row, eaten_text, head_rows, moment_row, table_meaning, table_rows, TableAnswers}
+use Rattle.alloc_tables.proofs.RowsLemmas.{rows-then}
 
 -- one more field after n that go by number
 pub fields-more : (field : ℕ → List ℕ) (n : ℕ) (last : List ℕ) (start mid next : Row) → last ≡ field n
@@ -33,17 +33,6 @@ fields-more field n last start mid next is so more =
   where
     row_after : (a b c : Row) → (a ++ b) ++ c ≡ a ++ (b ++ c)
     row_after a b c = simp append_assoc
-
--- one more moment
-pub moments-more : (moments : List ℕ) (i moment : ℕ) (start mid next : List ℕ) → moment ≡ slice_index moments i
-    → mid ≡ start ++ rows_text (moment_rows moments i)
-    → next ≡ mid ++ rows_text ((codes "moment" ∷ decimal (i + 1) ∷ decimal moment ∷ []) ∷ [])
-    → next ≡ start ++ rows_text (moment_rows moments (i + 1))
-moments-more moments i moment start mid next is so more =
-    let back : i + 1 - 1 ≡ i = omega arith in
-    let here : moment ≡ slice_index moments (i + 1 - 1) = is ∙ ap (slice_index moments) (sym back) in
-    rows-more (moment_row moments) 1 i (i + 1) (i + 1) start mid next (omega arith) (omega arith) so
-    (more ∙ ap (λ (m : ℕ). mid ++ rows_text ((codes "moment" ∷ decimal (i + 1) ∷ decimal m ∷ []) ∷ [])) here)
 
 -- what is eaten has a moment for each stated set
 pub moments_many : (p : ProblemValue) (v : EatenValue) → IsProblem p → IsEaten p v → length v.moments ≡ p.stated

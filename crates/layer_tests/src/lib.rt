@@ -4,6 +4,8 @@
 #![tactic(auto)]
 
 #[cfg(test)]
+mod fairness;
+#[cfg(test)]
 mod inputs;
 #[cfg(test)]
 mod lotteries;

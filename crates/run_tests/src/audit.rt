@@ -6,14 +6,14 @@ use std::test::Fail;
 
 // A lottery and the two files that it is for.
 #[derive(Clone, Copy)]
-struct Case {
-    prefs: &'static str,
-    quotas: &'static str,
-    lottery: &'static str,
+pub(crate) struct Case {
+    pub(crate) prefs: &'static str,
+    pub(crate) quotas: &'static str,
+    pub(crate) lottery: &'static str,
 }
 
 // Two agents with one list, and one with the other way round: the table has an uneaten place.
-const THREE: Case = Case {
+pub(crate) const THREE: Case = Case {
     prefs: "agent\nx,a,b\ny,a,b\nz,b,a\n",
     quotas: "object,a,,1\nobject,b,,1\n",
     lottery: "lottery,1\ndenominator,6\nagents,x,y,z\nobjects,a,b,none\n\
@@ -27,7 +27,7 @@ piece,4,2\ngive,x,none,1\ngive,y,a,1\ngive,z,b,1\nend,4\n",
 };
 
 // Two agents with one list, and objects that are full at the end.
-const TWO: Case = Case {
+pub(crate) const TWO: Case = Case {
     prefs: "agent,first,second\nx,a,b\ny,a,b\n",
     quotas: "object,a,,1\nobject,b,,1\n",
     lottery: "lottery,1\ndenominator,2\nagents,x,y\nobjects,a,b,none\n\
@@ -45,7 +45,7 @@ worth,x,a,3\nworth,x,none,0\npiece,1,3\ngive,x,a,1\ngive,x,none,2\nend,1\n",
 };
 
 // Two agents who demand two units each, and one who demands one.
-const DEMANDS_OF_TWO: Case = Case {
+pub(crate) const DEMANDS_OF_TWO: Case = Case {
     prefs: "agent\nu,a,b\nv,b,a\np,b\n",
     quotas: "object,a,,2\nobject,b,,2\nagent,u,2,2\nagent,v,2,2\n",
     lottery: "lottery,1\ndenominator,6\nagents,u,v,p\nobjects,a,b,none\n\
@@ -107,7 +107,7 @@ piece,3,2\ngive,x,b,1\ngive,y,b,1\npiece,4,1\ngive,x,b,1\nend,4\n",
 };
 
 // The text with its one part `old` exchanged for `new`.
-fn exchanged(
+pub(crate) fn exchanged(
     rt: &(impl Abort + AllocGlobal),
     text: &str,
     old: &str,

@@ -153,16 +153,24 @@ fn check_failing_lines(rt: &(impl Abort + AllocGlobal), words: &[&str]) -> Resul
 }
 
 // Each command on lawful files, and how many it loads.
-const COMMANDS: [(&[&str], u8); 12] = [
+const COMMANDS: [(&[&str], u8); 17] = [
     (&["pick", "lottery.csv", "1"], 1),
     (&["draw", "lottery.csv", ZEROS], 1),
     (&["solve", "prefs.csv", "quotas.csv"], 2),
     (&["sets", "prefs.csv", "quotas.csv"], 2),
     (&["table", "prefs.csv", "quotas.csv"], 2),
     (&["decompose", "matrix.csv", "quotas.csv"], 2),
+    (&["sides", "matrix.csv", "quotas.csv"], 2),
+    (&["decompose-free", "matrix.csv", "quotas.csv"], 2),
     (&["audit", "prefs.csv", "quotas.csv", "sound.csv"], 3),
     (
         &["audit-matrix", "matrix.csv", "quotas.csv", "split.csv"],
+        3,
+    ),
+    (&["envy", "prefs.csv", "quotas.csv", "sound.csv"], 3),
+    (&["solve-guarded", "prefs.csv", "quotas.csv"], 2),
+    (
+        &["audit-guarded", "prefs.csv", "quotas.csv", "sound.csv"],
         3,
     ),
     (&["report", "lottery.csv"], 1),

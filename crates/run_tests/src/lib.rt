@@ -13,7 +13,11 @@ mod devices;
 #[cfg(test)]
 mod draw;
 #[cfg(test)]
+mod envy;
+#[cfg(test)]
 mod generate;
+#[cfg(test)]
+mod guard;
 #[cfg(test)]
 mod input_faults;
 #[cfg(test)]
@@ -28,6 +32,8 @@ mod report;
 mod runs;
 #[cfg(test)]
 mod sets;
+#[cfg(test)]
+mod sides;
 #[cfg(test)]
 mod solve;
 #[cfg(test)]

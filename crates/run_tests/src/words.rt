@@ -20,10 +20,13 @@ fn cause_without_files(alloc: Global, words: &[&str]) -> Result<Cause, AllocErro
 
 #[test]
 fn usage_words(rt: HostRuntime) -> Result<(), Fail> {
-    let forms: [&[&str]; 52] = [
+    let forms: [&[&str]; 55] = [
         &["decompose", "matrix.csv"],
         &["decompose", "matrix.csv", "quotas.csv", "more.csv"],
         &["solve"],
+        &["decompose-free", "matrix.csv"],
+        &["sides", "matrix.csv"],
+        &["Sides", "matrix.csv", "quotas.csv"],
         &["solve", "prefs.csv"],
         &["solve", "prefs.csv", "quotas.csv", "more.csv"],
         &["table", "prefs.csv"],

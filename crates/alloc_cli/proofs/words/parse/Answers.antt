@@ -1,6 +1,6 @@
-use Rattle.std.proofs.Common.{◌∙◌, ap, string_bytes}
+use Rattle.std.proofs.Common.{◌∙◌, ap, length, string_bytes}
 use Rattle.alloc_cli.specs.Words.{form_of_one, form_of_two, form_of_three}
-use Rattle.alloc_cli.proofs.WordsLemmas.{form_of_four_words, form_of_three_words, form_of_two_words}
+use Rattle.alloc_cli.proofs.WordsLemmas.{form_of_four_words, form_of_three_loads, form_of_three_words, form_of_two_loads, form_of_two_words}
 use Rattle.alloc_cli.proofs.words.parse.Goals as goal
 
 pub returns-in-len2-clause-form : goal.returns-in-len2-clause-form
@@ -26,3 +26,12 @@ returns-in-len4-clause-form c =
     ∙ ap (form_of_three (string_bytes c.name-item-then-words-lt5.result) (string_bytes c.first-item-then-words-lt5.result) (string_bytes c.second-item-then-words-lt5.result)) c.as_str-in-len4-4.ensures.value
     ∙ form_of_four_words string_bytes c.args.words.now c.name-item-then-words-lt5.result c.first-item-then-words-lt5.result c.second-item-then-words-lt5.result c.third-item.result
     c.in-len4.len_at_least c.in-len4.len_below c.name-item-then-words-lt5.is c.first-item-then-words-lt5.is c.second-item-then-words-lt5.is c.third-item.is
+
+pub returns-in-len3-clause-files : goal.returns-in-len3-clause-files
+returns-in-len3-clause-files c =
+    form_of_two_loads (length c.args.words.now) c.as_str-in-len3.result.now c.as_str-in-len3-2.result.now c.as_str-in-len3-3.result.now c.parse_with_two.result c.parse_with_two.ensures.form c.in-len3.len_at_least
+
+pub returns-in-len4-clause-files : goal.returns-in-len4-clause-files
+returns-in-len4-clause-files c =
+    form_of_three_loads (length c.args.words.now) c.as_str-in-len4.result.now c.as_str-in-len4-2.result.now c.as_str-in-len4-3.result.now c.as_str-in-len4-4.result.now c.parse_with_three.result c.parse_with_three.ensures
+    c.in-len4.len_at_least

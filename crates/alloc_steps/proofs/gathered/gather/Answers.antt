@@ -6,13 +6,13 @@ use Rattle.definitions.specs.Values.{ProblemValue, prices_value}
 use Rattle.eating.specs.Eaten.{EatenValue}
 use Rattle.lottery_file.specs.Lotteries.{lists_value}
 use Rattle.peeling.specs.Peelers.{pieces_value}
-use Rattle.alloc_steps.proofs.Solving.{family_rows, put_together, solves_gathered}
+use Rattle.alloc_steps.proofs.Solving.{family_rows, own_sized, put_together, solves_gathered}
 use Rattle.alloc_steps.proofs.gathered.gather.Goals as goal
 
 pub new-requires-clause-agents : goal.new-requires-clause-agents
 new-requires-clause-agents c =
     ap (λ (x : ScaledValue). x.agents) c.shares.ensures.value
-    ∙ family_rows c.args.problem.now c.args.eaten.now (prices_value c.args.prices) c.requires.eaten.0 c.family.ensures.lawful c.requires.eaten.1 c.requires.certifies
+    ∙ family_rows c.args.problem.now.family c.args.problem.now c.args.eaten.now (prices_value c.args.prices) c.requires.eaten.0 (own_sized c.args.problem.now c.family.ensures.lawful) c.family.ensures.lawful c.requires.eaten.1 c.requires.certifies
     ∙ sym (ap (λ (f : FamilyValue). f.agents) c.family.ensures.value)
 
 pub returns : goal.returns
@@ -21,7 +21,7 @@ returns c =
     let p : ProblemValue = c.args.problem.now in
     let v : EatenValue = c.args.eaten.now in
     let e : List ℕ = c.requires.eaten.0 in
-    solves_gathered p v (prices_value c.args.prices) e c.family.ensures.lawful c.requires.eaten.1 c.requires.certifies
+    solves_gathered p.family p v (prices_value c.args.prices) e (own_sized p c.family.ensures.lawful) c.family.ensures.lawful c.requires.eaten.1 c.requires.certifies
     c.in_ok-agents.agents c.in_ok-columns.columns (lists_value c.in_ok-lists.lists.items) c.in_ok-shares.shares (pieces_value c.in_ok-pieces.pieces) c.in_ok-peeler.peeler c.family.result.now c.shares.result.now
     (c.in_ok-agents.ensures ∙ c.agents.ensures.value)
     (c.in_ok-columns.ensures ∙ ap (λ (names : List (List ℕ)). names ++ null_name ∷ []) c.objects.ensures.value)

@@ -1,7 +1,8 @@
 use Rattle.std.proofs.Common.{refl}
-use Rattle.alloc_tables.proofs.TableLemmas.{moments-more}
+use Rattle.std.specs.Prelude.{codes}
+use Rattle.alloc_tables.proofs.RowsLemmas.{values-more}
 use Rattle.alloc_tables.proofs.table.put_moments.Goals as goal
 
 pub loop-i-preserved : goal.loop-i-preserved
 loop-i-preserved c =
-    moments-more c.args.moments.now c.loop-i.i _ c.args.into.now.items c.loop-i.into.items c.put_two.new.into.items refl c.loop-i.invariant c.in_ok-put_two.ensures.ok
+    values-more (codes "moment") c.args.moments.now c.loop-i.i _ c.args.into.now.items c.loop-i.into.items c.put_two.new.into.items refl c.loop-i.invariant c.in_ok-put_two.ensures.ok

@@ -1,7 +1,7 @@
 use Rattle.std.proofs.Common.{All, subst}
 use Rattle.alloc_input.proofs.KnownSides.{IsKnownSide}
 use Rattle.alloc_readings.proofs.TreesLemmas.{apart_has_no_pair}
-use Rattle.alloc_steps.proofs.generate.trees_apart.Goals as goal
+use Rattle.alloc_steps.proofs.apart.trees_apart.Goals as goal
 use Rattle.bihierarchy.specs.Crossing.{IsCrossingFault}
 
 pub unreachable-requires : goal.unreachable-requires

@@ -31,13 +31,18 @@ FILE_LIMIT = 67108864
 TRIES = 50
 COMMANDS = (
     "solve school/lists.csv school/quotas.csv",
+    "solve-guarded school/lists.csv school/quotas.csv",
     "decompose committee/shares.csv committee/quotas.csv",
+    "decompose-free committee/shares.csv committee/quotas.csv",
     "audit school/lists.csv school/quotas.csv school/lottery.csv",
+    "audit-guarded shifts/lists.csv shifts/quotas.csv shifts/lottery.csv",
     "audit-matrix committee/shares.csv committee/quotas.csv committee/lottery.csv",
+    "envy shifts/lists.csv shifts/quotas.csv shifts/lottery.csv",
     "pick school/lottery.csv 1",
     f"draw committee/lottery.csv {SEED}",
     "report school/lottery.csv",
     "sets school/lists.csv school/quotas.csv",
+    "sides committee/shares.csv committee/quotas.csv",
     "table school/lists.csv school/quotas.csv",
     f"generate {SEED} 3 2",
     f"pact-commit Town {SEED}",

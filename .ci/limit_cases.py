@@ -3,11 +3,15 @@
 
 limit_cases.py write: writes the inputs into the current folder, and beside them what a run must write.
     lists.csv, quotas.csv    1,000 agents, 200 objects, and 400 sets with 300,000 cells; sets.csv and table.csv are due, and of
-        their lottery head.csv, which is all before the first piece
+        their lottery head.csv, which is all before the first piece, and envies.csv
+    choices.csv, places.csv  180 agents and 20 objects, with a guarded family of 2,000 sets
     shares.csv, rows.csv     a matrix of 1,000 by 200 shares, and 1,000 sets with 420,000 cells for it
+    chain.csv    1,000 sets of one side for it, of which each crosses the next, with 300,000 cells; sides.csv is due, and of the
+        empty matrix nothing.csv none.csv, a lottery without gives
     lottery.csv              a lottery of 67,108,864 bytes; first.csv and last.csv are due for its first and last ticket, and
         summary.json is its summary
     pact.csv     a pact of 1,000 parties, and seed.csv with the seed that it makes
+    long_lists.csv, long_quotas.csv    1,000 agents and 11 objects with the longest names, whose lottery has more bytes than are read
 limit_cases.py check: reads a lottery for shares.csv and rows.csv from standard input, and ends with 0 where its pieces add up to
     its rows and each of them keeps every quota; else it says what is wrong and ends with 1.
 limit_cases.py solved: the same of a lottery for lists.csv and quotas.csv.
@@ -97,6 +101,26 @@ def write_table():
     write("table.csv", [*head, *wholes, *odds, *named_rows(), f"end,{AGENTS}"])
 
 
+def write_envies():
+    """An agent of odd number has 3 fifths of objects, all in the first two places of its list, and one of even number has 5. So each of
+    odd number envies each of even number, at the first place up to which the other has all."""
+    envies = []
+    for agent in range(1, AGENTS + 1, 2):
+        places = {column: place for place, column in enumerate(around(first_choice(agent)), 1)}
+        for other in range(2, AGENTS + 1, 2):
+            place = max(places[column] for column in around(first_choice(other))[:2])
+            envies.append(f"envy,p{agent},p{other},{place},3,5")
+    write("envies.csv", [*envies, f"end,{len(envies)}"])
+
+
+def write_guarded():
+    """Each object is the first of nine choices of nine agents, who are due two units each. The first is theirs; of the next there is
+    enough for two thirds of a unit each. With 20 columns and 180 rows the ten sets of first places of each make 2,000."""
+    first = [[(agent + step) % 20 + 1 for step in range(9)] for agent in range(180)]
+    write("choices.csv", ["agent", *(f"p{agent},{numbered('s', choices)}" for agent, choices in enumerate(first, 1))])
+    write("places.csv", [*(f"object,s{column},,15" for column in range(1, 21)), *(f"agent,p{agent},2,2" for agent in range(1, 181))])
+
+
 def prices():
     """The moments 2/5 and 3/5 have the numbers 1 and 2. So the rank of an odd object is 3, and that of its agents of odd number 1;
     the rank of an even object is 2, and that of its agents of odd number is 2 too."""
@@ -136,6 +160,24 @@ def write_shares():
     write("rows.csv", [*objects, *stated, *odd_sets("2,3")])
 
 
+def cell_names(place):
+    """The agent and the object of a cell, by its place in the matrix row by row."""
+    return f"p{place // OBJECTS + 1},s{place % OBJECTS + 1}"
+
+
+def write_chain():
+    """Set k has 300 cells in a row, of which the second half is the first half of the next set."""
+    half, count = 150, 1000
+    stated = [f"set,chain {number},1" for number in range(1, count + 1)]
+    members = (f"in,chain {number},{cell_names(half * (number - 1) + step)}" for number in range(1, count + 1) for step in range(2 * half))
+    write("chain.csv", [*stated, *members])
+    write("sides.csv", [*(f"side,{number},{2 - number % 2}" for number in range(1, count + 1)), f"end,{count}"])
+    write("nothing.csv", [f"agent,{numbered('s', columns())}", *(f"p{agent}" for agent in agents())])
+    zeros = ",0" * OBJECTS
+    head = ["lottery,1", "denominator,1", f"agents,{numbered('p', agents())}", f"objects,{numbered('s', columns())}"]
+    write("none.csv", [*head, *(f"row,p{agent}{zeros}" for agent in agents()), "piece,1,1", "end,1"])
+
+
 def piece(number, names, places):
     """The piece of this number, of weight 1: each agent gets one place, and from piece to piece it is the next one."""
     gives = [f"give,{name},{places[(index + number) % OBJECTS]},1" for index, name in enumerate(names)]
@@ -173,6 +215,24 @@ def write_pact():
     write("pact.csv", ["pact,1", *commits, *reveals])
     seed = hashlib.sha256(b"".join(contribution for _, contribution in parties)).hexdigest()
     write("seed.csv", [f"seed,{seed}"])
+
+
+def long_name(word, number):
+    """A name of 64 bytes."""
+    return f"{word}{number} ".ljust(64, "x")
+
+
+def hashed_order(agent, columns_in_all):
+    """The columns in an order that differs from agent to agent."""
+    return sorted(range(1, columns_in_all + 1), key=lambda column: hashlib.sha256(b"%d,%d" % (agent, column)).digest())
+
+
+def write_long():
+    """A give has 137 bytes, and each agent has one in each piece, `none` among them: 500 pieces are more than 64 MiB."""
+    objects = 11
+    lists = {agent: ",".join(long_name("s", column) for column in hashed_order(agent, objects)[:5]) for agent in agents()}
+    write("long_lists.csv", ["agent,choices", *(f"{long_name('p', agent)},{line}" for agent, line in lists.items())])
+    write("long_quotas.csv", [f"object,{long_name('s', column)},,{80 + column}" for column in range(1, objects + 1)])
 
 
 def need(holds, what):
@@ -252,10 +312,14 @@ def write_inputs():
     write_quotas()
     write_sets()
     write_table()
+    write_envies()
+    write_guarded()
     write_head()
     write_shares()
+    write_chain()
     write_lottery()
     write_pact()
+    write_long()
 
 
 if __name__ == "__main__":

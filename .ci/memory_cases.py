@@ -24,8 +24,13 @@ CONTRIBUTION = "4dea8d27c604989ff26d1536f713856231ea73c7e33603638aca08f679b29659
 COMMANDS = (
     "solve school/lists.csv school/quotas.csv",
     "decompose committee/shares.csv committee/quotas.csv",
+    "decompose-free cookbook/overlapping/shares.csv cookbook/overlapping/quotas.csv",
+    "sides cookbook/overlapping/shares.csv cookbook/overlapping/quotas.csv",
     "audit school/lists.csv school/quotas.csv school/lottery.csv",
     "audit-matrix committee/shares.csv committee/quotas.csv committee/lottery.csv",
+    "envy shifts/lists.csv shifts/quotas.csv shifts/lottery.csv",
+    "solve-guarded shifts/lists.csv shifts/quotas.csv",
+    "audit-guarded shifts/lists.csv shifts/quotas.csv shifts/lottery.csv",
     "pick first/lottery.csv 1",
     f"draw committee/lottery.csv {SEED}",
     "report school/lottery.csv",

@@ -5,7 +5,8 @@
 # What each command asks, in order.
 declare -A _lottery_words=(
     [pick]='file ticket' [draw]='file seed' [solve]='file file' [sets]='file file' [table]='file file'
-    [decompose]='file file' [audit]='file file file' [audit-matrix]='file file file' [report]='file'
+    [decompose]='file file' [sides]='file file' [decompose-free]='file file' [audit]='file file file' [audit-matrix]='file file file' [report]='file'
+    [envy]='file file file' [solve-guarded]='file file' [audit-guarded]='file file file'
     [generate]='seed agents objects' [pact-commit]='name contribution' [pact-draw]='file file'
 )
 

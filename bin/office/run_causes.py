@@ -128,6 +128,13 @@ def too_fine(run, denominator):
     return f"the odds would need the denominator {int(denominator):,}"
 
 
+def over_guard(run, sets):
+    """How many of the sets are places of the lists, and how many are not."""
+    places = sum(1 + sum(1 for it in record.fields[1:] if it) for record in run.known.agents.values())
+    others = f"{sets - places:,} are not"
+    return f"{places:,} of the sets are places of the lists, with `none` at the end of each; {others}"
+
+
 def ticket(denominator):
     return f"tickets of this lottery go from 0 to {int(denominator) - 1:,}"
 
